@@ -1,0 +1,113 @@
+-- ℤ for `omega`, which reads only ℕ. A number z is P z - N z, one of the two being 0: sums, tests, ranges and shifts become linear facts about
+-- P and N, and an equation or an order of ℤ follows from one of ℕ.
+use Prim.Native.Nat.{ℕ, zero, suc, _+_, _-_, _*_, _/_, _%_, _^_, _≤_, _<_}
+use mathlib.Core.Path.{_≡_, refl, sym, ap, subst}
+use mathlib.Core.Bool.{Bool, true, false, not}
+use native.Mathlib.Nat.{div-add-mod, mod-lt, mul-suc}
+use native.Mathlib.Omega.{arith}
+use lib.Dec.{T}
+use lib.Pow.{pow-pos}
+use lib.IntN.{ℤ, pos, negsuc, negℤ, natAbs, subℕ, _+ℤ_, _-ℤ_}
+use lib.Signed.{nonNeg, ltZ, shrZ}
+use borrow.Author.Tests.{ltb-true, ltb-false, lt-ltb, le-ltb}
+use mir.Syntax.{Width}
+use mir.Val.{SFits, Fits, hbits, bits}
+use Rattle.arith.proofs.Magnitude.{by-sub}
+
+abbrev pub P : ℤ → ℕ
+P (pos n) = n
+P (negsuc n) = 0
+
+abbrev pub N : ℤ → ℕ
+N (pos n) = 0
+N (negsuc n) = suc n
+
+pub abs-pn : (z : ℤ) → natAbs z ≡ P z + N z
+abs-pn (pos n) = omega arith
+abs-pn (negsuc n) = omega arith
+
+-- of a number that is not below zero
+pub nat-pn : (z : ℤ) → N z ≤ P z → natAbs z + N z ≡ P z
+nat-pn (pos n) h = omega arith
+nat-pn (negsuc n) h = let z : ⊥ = omega arith in absurd z
+
+-- ---- sums
+
+sub-pn : (a b : ℕ) → P (subℕ a b) + b ≡ N (subℕ a b) + a
+sub-pn a b = by-sub (λ z. P z + b ≡ N z + a) a b (λ h. omega arith) (λ h. omega arith)
+
+pub add-pn : (a b : ℤ) → P (a +ℤ b) + (N a + N b) ≡ N (a +ℤ b) + (P a + P b)
+add-pn (pos a) (pos b) = omega arith
+add-pn (pos a) (negsuc b) = omega (arith, sub-pn a (suc b))
+add-pn (negsuc a) (pos b) = omega (arith, sub-pn b (suc a))
+add-pn (negsuc a) (negsuc b) = omega arith
+
+pub neg-P : (a : ℤ) → P (negℤ a) ≡ N a
+neg-P (pos zero) = refl
+neg-P (pos (suc n)) = refl
+neg-P (negsuc n) = refl
+
+pub neg-N : (a : ℤ) → N (negℤ a) ≡ P a
+neg-N (pos zero) = refl
+neg-N (pos (suc n)) = refl
+neg-N (negsuc n) = refl
+
+pub minus-pn : (a b : ℤ) → P (a -ℤ b) + (N a + P b) ≡ N (a -ℤ b) + (P a + N b)
+minus-pn a b = omega (arith, add-pn a (negℤ b), neg-P b, neg-N b)
+
+-- ---- tests: what one says, and when it says it
+
+pub lt-pn : (a b : ℤ) → ltZ a b ≡ true → P a + N b < P b + N a
+lt-pn (pos a) (pos b) e = omega (arith, ltb-true a b e)
+lt-pn (pos a) (negsuc b) e = absurd (subst T (sym e) tt)
+lt-pn (negsuc a) (pos b) e = omega arith
+lt-pn (negsuc a) (negsuc b) e = omega (arith, ltb-true b a e)
+
+pub ge-pn : (a b : ℤ) → ltZ a b ≡ false → P b + N a ≤ P a + N b
+ge-pn (pos a) (pos b) e = omega (arith, ltb-false a b e)
+ge-pn (pos a) (negsuc b) e = omega arith
+ge-pn (negsuc a) (pos b) e = absurd (subst (λ (t : Bool). T (not t)) (sym e) tt)
+ge-pn (negsuc a) (negsuc b) e = omega (arith, ltb-false b a e)
+
+pub pn-lt : (a b : ℤ) → P a + N b < P b + N a → ltZ a b ≡ true
+pn-lt (pos a) (pos b) h = lt-ltb a b (omega arith)
+pn-lt (pos a) (negsuc b) h = let z : ⊥ = omega arith in absurd z
+pn-lt (negsuc a) (pos b) h = refl
+pn-lt (negsuc a) (negsuc b) h = lt-ltb b a (omega arith)
+
+pub pn-ge : (a b : ℤ) → P b + N a ≤ P a + N b → ltZ a b ≡ false
+pn-ge (pos a) (pos b) h = le-ltb a b (omega arith)
+pn-ge (pos a) (negsuc b) h = refl
+pn-ge (negsuc a) (pos b) h = let z : ⊥ = omega arith in absurd z
+pn-ge (negsuc a) (negsuc b) h = le-ltb b a (omega arith)
+
+-- ---- equations
+
+pub eq-pn : (a b : ℤ) → P a + N b ≡ P b + N a → a ≡ b
+eq-pn (pos a) (pos b) e = ap pos (omega arith)
+eq-pn (pos a) (negsuc b) e = let z : ⊥ = omega arith in absurd z
+eq-pn (negsuc a) (pos b) e = let z : ⊥ = omega arith in absurd z
+eq-pn (negsuc a) (negsuc b) e = ap negsuc (omega arith)
+
+-- ---- the range of a width
+
+pub fit-pn : {w : Width} {z : ℤ} → SFits w z → (P z < 2 ^ hbits w) × (N z ≤ 2 ^ hbits w)
+fit-pn {w} {z = pos n} f = (f .sfits, omega arith)
+fit-pn {w} {z = negsuc n} f = (omega (arith, pow-pos (hbits w)), f .sfits)
+
+pub pn-fit : {w : Width} {z : ℤ} → P z < 2 ^ hbits w + N z → N z ≤ 2 ^ hbits w + P z → SFits w z
+pn-fit {w} {z = pos n} p q = record { sfits = omega arith }
+pn-fit {w} {z = negsuc n} p q = record { sfits = omega arith }
+
+-- what a cast to an unsigned type asks of a number that is not below zero
+pub unsign : (w : Width) (z : ℤ) → N z ≤ P z → P z < 2 ^ bits w + N z → T (nonNeg z) × Fits w (natAbs z)
+unsign w (pos n) p q = (tt, record { fits = omega arith })
+unsign w (negsuc n) p q = let z : ⊥ = omega arith in absurd z
+
+-- ---- a shift right rounds down: m × (z >> k) ≤ z < m × (z >> k) + m, with m = 2 ^ k
+
+pub shr-pn : (z : ℤ) (k : ℕ)
+    → (2 ^ k * P (shrZ z (2 ^ k)) + N z ≤ P z + 2 ^ k * N (shrZ z (2 ^ k)))
+    × (P z + 2 ^ k * N (shrZ z (2 ^ k)) < 2 ^ k * P (shrZ z (2 ^ k)) + N z + 2 ^ k)
+shr-pn (pos a) k = omega (arith, div-add-mod a (2 ^ k), mod-lt a (pow-pos k))
+shr-pn (negsuc a) k = omega (arith, div-add-mod a (2 ^ k), mod-lt a (pow-pos k), mul-suc (2 ^ k) (a / 2 ^ k))

@@ -1,0 +1,34 @@
+-- `arith::sat16` meets its contract: it is `clamp` between the ends of 16 bits.
+-- What lies between two numbers of 16 bits is one, so the cast loses nothing.
+use mathlib.Core.Path.{_≡_}
+use lib.Dec.{lit≤}
+use native.Mathlib.Omega.{arith}
+use lib.IntN.{pos, negsuc}
+use mir.Syntax.{w16, w64}
+use mir.Val.{SFits}
+use mir.Facts.{toZ-ofZ, sfits-widen}
+use borrow.Author.Needs.{needs}
+use Rattle.arith.specs.Arith.{clampZ, sat16Z}
+use Rattle.arith.proofs.Magnitude.{clamp-mag}
+use Rattle.arith.proofs.sat16.Statement.{statement}
+use Rattle.arith.proofs.sat16.Tie as tie
+
+clamp-requires : tie.Need-clamp-requires
+clamp-requires c κs = search needs
+
+is : (c : tie.After-clamp) → c .clamp .result ≡ sat16Z (c .before .args .v)
+unfolding sat16Z
+is c = simp (toZ-ofZ (c .before .fits .v)) at (c .clamp .ensures)
+
+fits : (c : tie.After-clamp) → SFits w16 (c .clamp .result)
+unfolding sat16Z
+fits c = rw (is c) (record { sfits = omega (arith, clamp-mag (c .before .args .v) (negsuc 32767) (pos 32767) 32767 (lit≤ tt) (lit≤ tt)) })
+
+cast-result : tie.Need-cast-result
+cast-result c = simp (toZ-ofZ (sfits-widen {w′ = w64} tt (fits c))) (fits c)
+
+returns : tie.Need-returns
+returns c = simp (toZ-ofZ (sfits-widen {w′ = w64} tt (fits c)), toZ-ofZ (fits c)) (is c)
+
+pub sat16-spec : {M : Type 1} → statement M
+sat16-spec = tie.close (tie.spec clamp-requires cast-result returns)

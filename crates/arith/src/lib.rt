@@ -1,0 +1,82 @@
+// The arithmetic of the path: rounding, clamps, shifts, products and reductions of signed integers.
+//
+// Every function here is total. It answers for each input what its definition over ℤ says (specs/Arith.antt), and no caller owes it anything.
+ghost use mathlib.Core.Path.{_≡_};
+ghost use Prim.Native.Nat.{_^_};
+ghost use lib.IntN.{_*ℤ_};
+ghost use lib.Signed.{shrZ};
+ghost use Rattle.arith.specs.Arith.{roundShift, clampZ, sat16Z, modZ, wrapI32};
+
+// round(v / 2^s), a half upward; v for s = 0. The last bit that is shifted out decides, so it is
+// enough to look at v a place before: that number less its half, which cannot overflow.
+pub fn round_shift(v: i64, s: u32) -> i64
+    ensures { λ r. ⌜ r ≡ roundShift v s ⌝ }
+{
+    if s == 0 {
+        return v;
+    }
+    if 63 < s {
+        return 0;
+    }
+    let twice = v >> (s - 1);
+    twice - (twice >> 1)
+}
+
+// v / 2^s, rounded down. From 63 places on only the sign is left.
+pub fn shift_right(v: i64, s: u32) -> i64
+    ensures { λ r. ⌜ r ≡ shrZ v (2 ^ s) ⌝ }
+{
+    if 63 < s {
+        return v >> 63;
+    }
+    v >> s
+}
+
+// The whole product: 32 bits times 32 bits fit 64.
+pub fn product(a: i32, b: i32) -> i64
+    ensures { λ r. ⌜ r ≡ a *ℤ b ⌝ }
+{
+    (a as i64) * (b as i64)
+}
+
+// v, held between lo and hi.
+pub fn clamp(v: i64, lo: i64, hi: i64) -> i64
+    ensures { λ r. ⌜ r ≡ clampZ v lo hi ⌝ }
+{
+    if v < lo {
+        return lo;
+    }
+    if hi < v {
+        return hi;
+    }
+    v
+}
+
+// Saturate to 16 bits.
+pub fn sat16(v: i64) -> i16
+    ensures { λ r. ⌜ r ≡ sat16Z v ⌝ }
+{
+    clamp(v, -32768, 32767) as i16
+}
+
+// v modulo 2^32, as 32 bits unsigned.
+pub fn wrap_u32(v: i64) -> u32
+    ensures { λ r. ⌜ r ≡ modZ v (2 ^ 32) ⌝ }
+{
+    let rest = v % 0x1_0000_0000;
+    if rest < 0 {
+        return (rest + 0x1_0000_0000) as u32;
+    }
+    rest as u32
+}
+
+// v modulo 2^32, as 32 bits signed: the upper half of the unsigned numbers stands for those below zero.
+pub fn wrap_i32(v: i64) -> i32
+    ensures { λ r. ⌜ r ≡ wrapI32 v ⌝ }
+{
+    let n = wrap_u32(v);
+    if n < 0x8000_0000 {
+        return n as i32;
+    }
+    (n as i64 - 0x1_0000_0000) as i32
+}
