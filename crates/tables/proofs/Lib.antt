@@ -1,0 +1,3 @@
+-- The rule of the wheel, and what turns one computed test into a fact at every place.
+pub mod Computed
+pub mod Wheel
