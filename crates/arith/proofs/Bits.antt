@@ -31,6 +31,9 @@ back w z h = toZ-ofZ (sfit h)
 pub held : (w : Width) (z : ℤ) → mag z < 2 ^ hbits w → toZ w (ofZ w z) ≡ z
 held w z h = toZ-ofZ (record { sfits = h })
 
--- read back at a width that is as wide or wider, as `x as i64` does
+-- a width that is as wide or wider, as in `x as i64`: the cast loses nothing, and z is read back
+pub widens : {w : Width} (w′ : Width) {z : ℤ} → T (leb (hbits w) (hbits w′)) → SFits w z → SFits w′ (toZ w (ofZ w z))
+widens w′ t h = simp (toZ-ofZ h) (sfits-widen t h)
+
 pub widened : {w : Width} (w′ : Width) {z : ℤ} → T (leb (hbits w) (hbits w′)) → SFits w z → toZ w′ (ofZ w′ (toZ w (ofZ w z))) ≡ z
 widened w′ t h = simp (toZ-ofZ h, toZ-ofZ (sfits-widen {w′ = w′} t h))

@@ -5,9 +5,9 @@ use native.Mathlib.Omega.{arith}
 use lib.IntN.{_*ℤ_, natAbs}
 use mir.Syntax.{w64}
 use mir.Val.{SFits}
-use mir.Facts.{toZ-ofZ, sfits-widen}
+use mir.Facts.{toZ-ofZ}
 use Rattle.arith.proofs.Magnitude.{abs-mul-le}
-use Rattle.arith.proofs.Bits.{sfit, fit-abs, widened}
+use Rattle.arith.proofs.Bits.{sfit, fit-abs, widens, widened}
 use Rattle.arith.proofs.product.Statement.{statement}
 use Rattle.arith.proofs.product.Tie as tie
 
@@ -17,10 +17,10 @@ fits c =
     sfit (omega arith)
 
 cast-result : tie.Need-cast-result
-cast-result c = simp (toZ-ofZ (c .fits .a)) (sfits-widen tt (c .fits .a))
+cast-result c = widens w64 tt (c .fits .a)
 
 cast-result-2 : tie.Need-cast-result-2
-cast-result-2 c = simp (toZ-ofZ (c .fits .b)) (sfits-widen tt (c .fits .b))
+cast-result-2 c = widens w64 tt (c .fits .b)
 
 mul-result : tie.Need-mul-result
 mul-result c = simp (widened w64 tt (c .fits .a), widened w64 tt (c .fits .b)) (fits c)

@@ -1,0 +1,52 @@
+-- Numbers as text, and the counts of a replay.
+use Prim.Native.Nat.{ℕ, _+_, _-_, _*_, _%_, _^_, _≤_, min, max}
+use mathlib.Core.Bool.{Bool, true, false, cond}
+use lib.Dec.{ltb, eqb}
+use lib.IntN.{ℤ, pos, negsuc, _-ℤ_}
+use Rattle.replay.specs.declared.Number.{Number}
+use Rattle.replay.specs.declared.Cursor.{Cursor}
+use Rattle.replay.specs.declared.Tally.{Tally}
+
+-- A number of which nothing is read yet.
+abbrev pub noNumber : Number
+noNumber = record { size = 0; minus = false }
+
+-- A number with one more byte of its text: a minus sign, a digit, or a byte that says nothing.
+-- Digits past the nineteenth say nothing either.
+unfoldable pub digitAdded : Number → ℕ → Number
+digitAdded n b =
+    cond (eqb b 45) (record { size = n .size; minus = true })
+    (cond (ltb b 48) n
+    (cond (ltb 57 b) n
+    (cond (ltb 922337203685477580 (n .size)) n
+    (record { size = n .size * 10 + (b - 48); minus = n .minus }))))
+
+-- The number with its sign, held to 64 bits signed.
+unfoldable pub signedValue : Number → ℤ
+signedValue n =
+    cond (n .minus) (cond (ltb 9223372036854775807 (n .size)) (negsuc 9223372036854775807) (pos 0 -ℤ pos (n .size)))
+    (cond (ltb 9223372036854775807 (n .size)) (pos 9223372036854775807) (pos (n .size)))
+
+-- A cursor before the first byte of the first row, and one at another byte of its piece.
+abbrev pub start : Cursor
+start = record { at = 0; column = 0; number = noNumber; ended = false }
+
+abbrev pub moved : Cursor → ℕ → Cursor
+moved c at = record { at = at; column = c .column; number = c .number; ended = c .ended }
+
+-- A cursor that has read on in a piece of n bytes: not past the end and, unless it stood there, at least one byte.
+pub record Advanced (before : Cursor) (n : ℕ) (after : Cursor) : Type 0 where
+  pub inside : after .at ≤ max (before .at) n
+  pub onward : min (before .at + 1) n ≤ after .at
+
+-- Nothing compared yet.
+abbrev pub noneCounted : Tally
+noneCounted = record { rows = 0; wrong = 0; first = 0 }
+
+-- One answer more, modulo 2^64, which no file reaches: the first that differs leaves its row, counted from 1.
+unfoldable pub oneCounted : Tally → Bool → Tally
+oneCounted t same =
+    let rows : ℕ = (t .rows + 1) % 2 ^ 64 in
+    cond same (record { rows = rows; wrong = t .wrong; first = t .first })
+    (cond (eqb (t .wrong) 0) (record { rows = rows; wrong = 1; first = rows })
+    (record { rows = rows; wrong = (t .wrong + 1) % 2 ^ 64; first = t .first }))
