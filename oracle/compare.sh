@@ -1,0 +1,65 @@
+#!/bin/sh
+# Builds isdb-rs's front end unchanged, compares what it answers with what this repository answers, and says how many answers were
+# compared and how many differed. Run it as `make oracle`. SCALE=10 makes every part ten times as large.
+set -eu
+cd "$(dirname "$0")/.."
+: "${RT:=rt}" "${ISDB_RS:=../shared/docs/src}" "${SCALE:=1}"
+source=$ISDB_RS/crates/isdb-frontend/src
+work=target/oracle
+
+absent() {
+    echo "oracle: $1"
+    echo "oracle: nothing was compared. Without the Rust every answer rests on the definitions in specs/ alone, which were written from document 01;"
+    echo "oracle: what is stored of the Rust's answers in crates/replay_*/stdin is still replayed by make test."
+    exit 1
+}
+command -v cargo >/dev/null || absent "cargo is not here, so isdb-rs cannot be built"
+[ -f "$source/fixed.rs" ] || absent "$source/fixed.rs is missing: ISDB_RS is to be the path to isdb-rs, commit 754ed06c49"
+
+# ---- build
+
+mkdir -p "$work"
+sums=$(pwd)/oracle/sources.sha256
+(cd "$source" && sha256sum --check --quiet "$sums") || echo "oracle: the sources are not those of commit 754ed06c49; what differs may be theirs"
+echo "oracle: building isdb-rs, and once more with every overflow a panic .."
+for profile in release checked; do
+    (cd oracle && cargo build --offline --quiet --profile $profile)
+done
+echo "oracle: proving and linking the replay programs .."
+$RT check replay_leaves >"$work/check.out" 2>&1 || { tail -n 20 "$work/check.out"; exit 1; }
+rust=oracle/target/release/oracle
+checked=oracle/target/checked/oracle
+
+# ---- compare
+
+compared=0 differed=0
+count() { # NAME COMPARED DIFFERED
+    echo "oracle: $1: $2 compared, $3 differed"
+    compared=$((compared + $2)) differed=$((differed + $3))
+}
+
+# The leaves: the whole cosine wheel and random calls of the arithmetic.
+seed=1
+while [ $seed -le 3 ]; do
+    line=$($checked leaves $seed $((1000000 * SCALE)) | target/bin/replay_leaves)
+    count "leaves, seed $seed" "${line%% *}" "$(echo "$line" | sed 's/.*compared, \([0-9]*\) differ.*/\1/')"
+    seed=$((seed + 1))
+done
+
+# The Rust's two builds against each other: where they differ an overflow wrapped, and its answers are no measure.
+same=0 other=0
+seed=1
+while [ $seed -le $((40 * SCALE)) ]; do
+    for kind in designed extreme; do
+        $rust recording $kind $seed 2000 >"$work/input"
+        $rust symbols --state <"$work/input" >"$work/release"
+        $checked symbols --state --blocks $seed <"$work/input" >"$work/checked"
+        if cmp -s "$work/release" "$work/checked"; then same=$((same + 1)); else other=$((other + 1)); fi
+    done
+    seed=$((seed + 1))
+done
+echo "oracle: isdb-rs's two builds, one with its samples cut into other blocks: $same recordings alike, $other not"
+[ $other -eq 0 ] || exit 1
+
+echo "oracle: $compared answers compared, $differed differed"
+[ $differed -eq 0 ]

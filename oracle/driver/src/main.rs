@@ -1,0 +1,81 @@
+//! Asks the Rust front end of isdb-rs, text in and text out. README.md beside this folder has the formats.
+
+mod design;
+mod generate;
+mod leaves;
+mod program;
+mod random;
+mod sheet;
+mod state;
+
+use std::io::{self, BufRead, BufWriter, Write};
+use std::process::ExitCode;
+
+const USAGE: &str = "\
+oracle: asks the Rust front end of isdb-rs
+
+  oracle wheel                        the cosine table, a line an entry: k,value
+  oracle leaves SEED COUNT            the cosine table and calls of the arithmetic, with what each gives
+  oracle validate                     standard input: sheets, 4 lines each; each comes back with its answer
+  oracle symbols [--state] [--blocks SEED]
+                                      the symbol program: standard input to standard output; with --state the
+                                      end state follows, with --blocks the pairs go in by blocks of random sizes
+  oracle design                       standard input: designs, a line each; the registers or the refusal of each
+  oracle input                        standard input: f32 by their bits in hexadecimal; the sample of each
+  oracle sheets KIND SEED COUNT       sheets for `validate`
+  oracle recording KIND SEED PAIRS    an input of the symbol program
+  oracle designs SEED COUNT           designs for `design`
+
+KIND is designed, extreme, refused or mixed for sheets, and designed or extreme for a recording.
+";
+
+fn main() -> ExitCode {
+    let words: Vec<String> = std::env::args().skip(1).collect();
+    let words: Vec<&str> = words.iter().map(String::as_str).collect();
+    let input = io::stdin().lock();
+    let mut output = BufWriter::new(io::stdout().lock());
+    match run(&words, input, &mut output).and_then(|()| output.flush()) {
+        Ok(()) => ExitCode::SUCCESS,
+        Err(e) if e.kind() == io::ErrorKind::BrokenPipe => ExitCode::SUCCESS,
+        Err(e) => {
+            eprintln!("{e}");
+            ExitCode::FAILURE
+        }
+    }
+}
+
+fn run(words: &[&str], input: impl BufRead, output: &mut impl Write) -> io::Result<()> {
+    match *words {
+        ["wheel"] => wheel(output),
+        ["leaves", seed, count] => leaves::write(number(seed)?, number(count)?, output),
+        ["validate"] => sheet::validate(input, output),
+        ["symbols", ref flags @ ..] => program::run(program::Options::read(flags)?, input, output),
+        ["design"] => design::registers(input, output),
+        ["input"] => design::samples(input, output),
+        ["sheets", kind, seed, count] => {
+            generate::sheets(kind, number(seed)?, number(count)?, output)
+        }
+        ["recording", kind, seed, pairs] => {
+            generate::recording(kind, number(seed)?, number(pairs)?, output)
+        }
+        ["designs", seed, count] => generate::designs(number(seed)?, number(count)?, output),
+        _ => Err(usage(USAGE)),
+    }
+}
+
+fn wheel(output: &mut impl Write) -> io::Result<()> {
+    for (k, w) in isdb_frontend::tables::cos_table().iter().enumerate() {
+        writeln!(output, "{k},{w}")?;
+    }
+    Ok(())
+}
+
+/// A number on the command line.
+pub fn number(word: &str) -> io::Result<u64> {
+    word.parse()
+        .map_err(|_| usage(&format!("{word} is not a number\n\n{USAGE}")))
+}
+
+pub fn usage(text: &str) -> io::Error {
+    io::Error::new(io::ErrorKind::InvalidInput, text.to_string())
+}
