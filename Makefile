@@ -1,0 +1,29 @@
+# make run     the main job, on the stored input
+# make test    the gate: proofs, must-fail edits and programs, from nothing
+# make oracle  compares this code with the Rust front end of isdb-rs
+#
+# Needed: the Rattle kit (its command rt) and a POSIX shell; for `make oracle` cargo, and the sources of isdb-rs at ISDB_RS.
+RT ?= rt
+ISDB_RS ?= ../shared/docs/src
+
+.PHONY: run test oracle clean kit
+
+run: kit
+	@echo "Proving and linking replay_leaves and what it stands on (half a minute from nothing) .."
+	@mkdir -p target
+	@$(RT) check replay_leaves >target/run.out 2>&1 || { tail -n 20 target/run.out; exit 1; }
+	@echo "Replaying the answers of isdb-rs that are stored in crates/replay_leaves/stdin:"
+	@target/bin/replay_leaves <crates/replay_leaves/stdin
+
+test: kit
+	@$(RT) fmt --check
+	@$(RT) ci
+
+oracle: kit
+	@RT='$(RT)' ISDB_RS='$(ISDB_RS)' sh oracle/compare.sh
+
+clean:
+	rm -rf target oracle/target
+
+kit:
+	@command -v $(RT) >/dev/null || { echo "rt, the command of the Rattle kit, is not on the PATH. Install the kit, or say where it is: make RT=/path/to/rt"; exit 1; }
