@@ -1,16 +1,14 @@
 -- The bits of a signed number, read back. A signed local holds bits: the machine writes z as `ofZ w z` and reads `toZ w` of that, which is z
 -- where z fits the width. A proof takes these towers off first, and reasons about z alone.
-use Prim.Native.Nat.{ℕ, _+_, _*_, _%_, _^_, _≤_, _<_}
-use mathlib.Core.Path.{_≡_, ap, _∙_}
-use native.Mathlib.Nat.{one-mul, mod-eq-of-lt}
+use Prim.Native.Nat.{ℕ, _^_, _≤_, _<_}
+use mathlib.Core.Path.{_≡_}
 use native.Mathlib.Omega.{arith}
 use lib.Dec.{T, leb}
-use lib.IntN.{ℤ, pos, natAbs}
+use lib.IntN.{ℤ, natAbs}
 use lib.Signed.{mag, shrZ, mag-shr}
-use lib.Pow.{pow-lt}
-use mir.Syntax.{Width, w64}
+use mir.Syntax.{Width}
 use mir.Val.{SFits, hbits, toZ, ofZ}
-use mir.Facts.{sfits-widen, toZ-ofZ, toZ-pos}
+use mir.Facts.{sfits-widen, toZ-ofZ}
 use Rattle.arith.proofs.Magnitude.{mag-abs, abs-mag}
 
 -- a number that is small enough fits, and one that fits is small

@@ -1,9 +1,9 @@
 -- Remainders modulo 2^32. The machine's remainder has the sign of its dividend, so it is right or one modulus away; in terms of P and N that is a
 -- fact about remainders of naturals, which `omega` decides.
-use Prim.Native.Nat.{ℕ, zero, suc, _+_, _/_, _%_, _^_, _≤_, _<_}
+use Prim.Native.Nat.{ℕ, suc, _+_, _/_, _%_, _^_, _≤_, _<_}
 use mathlib.Core.Path.{_≡_, refl}
 use native.Mathlib.Omega.{arith}
-use lib.IntN.{ℤ, pos, negsuc, negℤ, _+ℤ_, _-ℤ_}
+use lib.IntN.{ℤ, pos, negsuc, _+ℤ_, _-ℤ_}
 use lib.Signed.{quotZ, remZ}
 use mir.Syntax.{w64}
 use mir.Val.{SFits}

@@ -1,17 +1,18 @@
 -- ℤ for `omega`, which reads only ℕ. A number z is P z - N z, one of the two being 0: sums, tests, ranges and shifts become linear facts about
 -- P and N, and an equation or an order of ℤ follows from one of ℕ.
-use Prim.Native.Nat.{ℕ, zero, suc, _+_, _-_, _*_, _/_, _%_, _^_, _≤_, _<_}
+use Prim.Native.Nat.{ℕ, zero, suc, _+_, _*_, _/_, _^_, _≤_, _<_}
 use mathlib.Core.Path.{_≡_, refl, sym, ap, subst}
-use mathlib.Core.Bool.{Bool, true, false, not}
+use mathlib.Core.Bool.{Bool, true, false, not, cond}
 use native.Mathlib.Nat.{div-add-mod, mod-lt, mul-suc}
 use native.Mathlib.Omega.{arith}
 use lib.Dec.{T}
 use lib.Pow.{pow-pos}
 use lib.IntN.{ℤ, pos, negsuc, negℤ, natAbs, subℕ, _+ℤ_, _-ℤ_}
-use lib.Signed.{nonNeg, ltZ, shrZ}
-use borrow.Author.Tests.{ltb-true, ltb-false, lt-ltb, le-ltb}
+use lib.Signed.{nonNeg, ltZ, leZ, shrZ}
+use borrow.Author.Tests.{ltb-true, ltb-false, leb-true, lt-ltb, le-ltb, le-leb}
 use mir.Syntax.{Width}
 use mir.Val.{SFits, Fits, hbits, bits}
+use Rattle.arith.specs.Arith.{clampZ}
 use Rattle.arith.proofs.Magnitude.{by-sub}
 
 abbrev pub P : ℤ → ℕ
@@ -81,6 +82,18 @@ pn-ge (pos a) (negsuc b) h = refl
 pn-ge (negsuc a) (pos b) h = let z : ⊥ = omega arith in absurd z
 pn-ge (negsuc a) (negsuc b) h = le-ltb b a (omega arith)
 
+pub le-pn : (a b : ℤ) → leZ a b ≡ true → P a + N b ≤ P b + N a
+le-pn (pos a) (pos b) e = omega (arith, leb-true a b e)
+le-pn (pos a) (negsuc b) e = absurd (subst T (sym e) tt)
+le-pn (negsuc a) (pos b) e = omega arith
+le-pn (negsuc a) (negsuc b) e = omega (arith, leb-true b a e)
+
+pub pn-le : (a b : ℤ) → P a + N b ≤ P b + N a → leZ a b ≡ true
+pn-le (pos a) (pos b) h = le-leb a b (omega arith)
+pn-le (pos a) (negsuc b) h = let z : ⊥ = omega arith in absurd z
+pn-le (negsuc a) (pos b) h = refl
+pn-le (negsuc a) (negsuc b) h = le-leb b a (omega arith)
+
 -- ---- equations
 
 pub eq-pn : (a b : ℤ) → P a + N b ≡ P b + N a → a ≡ b
@@ -88,6 +101,26 @@ eq-pn (pos a) (pos b) e = ap pos (omega arith)
 eq-pn (pos a) (negsuc b) e = let z : ⊥ = omega arith in absurd z
 eq-pn (negsuc a) (pos b) e = let z : ⊥ = omega arith in absurd z
 eq-pn (negsuc a) (negsuc b) e = ap negsuc (omega arith)
+
+-- ---- a clamp lies between its ends, if they are in order
+
+pub record Between (lo hi z : ℤ) : Type 0 where
+  pub low : leZ lo z ≡ true
+  pub high : leZ z hi ≡ true
+
+pub clamp-between : (v lo hi : ℤ) → leZ lo hi ≡ true → Between lo hi (clampZ v lo hi)
+unfolding clampZ
+clamp-between v lo hi o = go (ltZ v lo) refl (ltZ hi v) refl
+  where
+    go : (a : Bool) → ltZ v lo ≡ a → (b : Bool) → ltZ hi v ≡ b → Between lo hi (cond (ltZ v lo) lo (cond (ltZ hi v) hi v))
+    go true e b f = rw e (record { low = pn-le lo lo (omega arith); high = o })
+    go false e true f = rw (e, f) (record { low = o; high = pn-le hi hi (omega arith) })
+    go false e false f = rw (e, f) (record { low = pn-le lo v (ge-pn v lo e); high = pn-le v hi (ge-pn hi v f) })
+
+-- between two numbers that are not below zero, as one that is not
+pub between-nat : (lo hi : ℕ) (z : ℤ) → Between (pos lo) (pos hi) z → (lo ≤ natAbs z) × (natAbs z ≤ hi)
+between-nat lo hi (pos n) b = (leb-true lo n (b .low), leb-true n hi (b .high))
+between-nat lo hi (negsuc n) b = absurd (subst T (sym (b .low)) tt)
 
 -- ---- the range of a width
 

@@ -1,20 +1,18 @@
 -- Rounding and shifting. R needs no sum that could overflow: of v, shifted to one place before the last, it takes the half rounded up, which is that
 -- number less its half rounded down. A shift past the last place of 64 bits leaves the sign alone, and R leaves 0.
 use Prim.Native.Nat.{ℕ, zero, suc, _+_, _-_, _*_, _/_, _^_, _≤_, _<_}
-use mathlib.Core.Path.{_≡_, refl, sym, ap, _∙_}
-use mathlib.Core.Bool.{true, false, cond}
+use mathlib.Core.Path.{_≡_, sym, ap, _∙_}
 use native.Mathlib.Nat.{le-refl, pow-suc, div-eq-of-lt, div-div-eq-div-mul, add-div-right}
 use native.Mathlib.Omega.{arith}
-use lib.Dec.{eqb}
-use lib.IntN.{ℤ, pos, negsuc, negℤ, natAbs, subℕ, _+ℤ_, _-ℤ_}
+use lib.IntN.{ℤ, pos, negsuc, negℤ, natAbs, _+ℤ_, _-ℤ_}
 use lib.Signed.{mag, shrZ}
 use lib.Pow.{pow-pos, pow-mono}
 use mir.Syntax.{Width}
 use mir.Val.{SFits}
-use borrow.Author.Tests.{ne-eqb, eqb-false}
+use borrow.Author.Tests.{ne-eqb}
 use Rattle.arith.specs.Arith.{roundShift}
-use Rattle.arith.proofs.Magnitude.{by-cond, by-sub, abs-neg, abs-shr}
-use Rattle.arith.proofs.Order.{P, N, eq-pn, minus-pn, neg-P, neg-N}
+use Rattle.arith.proofs.Magnitude.{by-sub, abs-neg, abs-shr}
+use Rattle.arith.proofs.Order.{eq-pn, minus-pn, neg-P, neg-N}
 
 -- ---- half of a number, rounded up
 

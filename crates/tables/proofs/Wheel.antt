@@ -1,12 +1,12 @@
 -- The wheel keeps the cosine's rule: one test, computed at each of the 1,024 steps, covers what the rule says there.
 -- The rule at any other index is the rule at that index modulo 1,024.
 use Prim.Native.Nat.{ℕ, _+_, _-_, _%_, _≤_, _<_}
-use mathlib.Core.Path.{_≡_, refl, sym, ap, _∙_}
+use mathlib.Core.Path.{_≡_, refl, ap, _∙_}
 use mathlib.Core.Bool.{Bool, _&&_, _||_}
 use mathlib.Core.Logic.{⊎-elim}
 use native.Mathlib.Omega.{arith}
-use lib.Dec.{T, leb, leb→le, le→leb}
-use lib.IntN.{ℤ, pos, negℤ, natAbs, _+ℤ_, _-ℤ_, _*ℤ_}
+use lib.Dec.{T, leb, leb→le}
+use lib.IntN.{pos, negℤ, natAbs, _+ℤ_, _-ℤ_, _*ℤ_}
 use lib.Signed.{leZ, _≤ℤ_}
 use mir.Facts.{and-yes, or-yes}
 use Rattle.tables.specs.Wheel.{quarter, wheel, CosineRule}

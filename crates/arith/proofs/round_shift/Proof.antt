@@ -1,7 +1,7 @@
 -- `arith::round_shift` meets its contract: R of s places is the upper half of what a shift by s - 1 leaves (Rounding, `round-halves`), and that half is no larger, so it fits.
 -- Past 63 places R of any 64-bit number is 0.
-use Prim.Native.Nat.{ℕ, _-_, _^_, _<_}
-use mathlib.Core.Path.{_≡_, sym}
+use Prim.Native.Nat.{_-_, _^_}
+use mathlib.Core.Path.{sym}
 use native.Mathlib.Omega.{arith}
 use lib.IntN.{ℤ}
 use lib.Signed.{shrZ}
@@ -12,7 +12,7 @@ use borrow.Author.Needs.{needs}
 use borrow.Author.Tests.{eq-eqb}
 use Rattle.arith.specs.Arith.{roundShift}
 use Rattle.arith.proofs.Bits.{shr-fits}
-use Rattle.arith.proofs.Rounding.{upper, upper-fits, round-halves, round-far}
+use Rattle.arith.proofs.Rounding.{upper-fits, round-halves, round-far}
 use Rattle.arith.proofs.round_shift.Statement.{statement}
 use Rattle.arith.proofs.round_shift.Tie as tie
 

@@ -8,7 +8,7 @@ use mir.Syntax.{w16, w64}
 use mir.Val.{SFits}
 use mir.Facts.{toZ-ofZ, sfits-widen}
 use borrow.Author.Needs.{needs}
-use Rattle.arith.specs.Arith.{clampZ, sat16Z}
+use Rattle.arith.specs.Arith.{sat16Z}
 use Rattle.arith.proofs.Magnitude.{clamp-mag}
 use Rattle.arith.proofs.sat16.Statement.{statement}
 use Rattle.arith.proofs.sat16.Tie as tie

@@ -1,12 +1,8 @@
 -- `arith::shift_right` meets its contract: a shift makes nothing larger, so its result fits.
 -- From 63 places on every number of 64 bits gives what 63 places give.
-use Prim.Native.Nat.{ℕ, _^_}
+use Prim.Native.Nat.{_^_}
 use mathlib.Core.Path.{sym}
 use native.Mathlib.Omega.{arith}
-use lib.IntN.{ℤ}
-use lib.Signed.{shrZ, mag-shr}
-use mir.Syntax.{w64}
-use mir.Val.{SFits}
 use mir.Facts.{toZ-ofZ}
 use borrow.Author.Needs.{needs}
 use Rattle.arith.proofs.Rounding.{shr-far}

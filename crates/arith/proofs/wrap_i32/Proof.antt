@@ -8,8 +8,7 @@ use mir.Syntax.{w32, w64}
 use mir.Val.{SFits}
 use mir.Facts.{toZ-ofZ, toZ-pos, sfits-widen}
 use borrow.Author.Needs.{needs}
-use Rattle.arith.specs.Arith.{modZ}
-use Rattle.arith.proofs.Order.{P, N, minus-pn, pn-fit}
+use Rattle.arith.proofs.Order.{minus-pn, pn-fit}
 use Rattle.arith.proofs.Modulus.{Modulo, mod-is, wrap-only}
 use Rattle.arith.proofs.wrap_i32.Statement.{statement}
 use Rattle.arith.proofs.wrap_i32.Tie as tie

@@ -2,7 +2,7 @@
 -- Only one number from 0 to 2^32 - 1 does (Modulus, `mod-only`).
 use Prim.Native.Nat.{_+_, _^_, _≤_, _<_}
 use mathlib.Core.Path.{_≡_}
-use mathlib.Core.Bool.{true, false}
+use mathlib.Core.Bool.{true}
 use native.Mathlib.Omega.{arith}
 use lib.Dec.{lit<}
 use lib.IntN.{ℤ, pos, natAbs, _+ℤ_}

@@ -1,14 +1,13 @@
 -- `tables::cos` meets its contract: at each of the 1,024 places the constant of the code is the wheel's entry, by one computed test.
 -- An index goes round modulo 1,024 in both, and every entry fits 16 bits.
-use Prim.Native.Nat.{ℕ, _%_, _<_}
-use mathlib.Core.Path.{_≡_, ap, _∙_}
+use Prim.Native.Nat.{ℕ, _%_}
+use mathlib.Core.Path.{_≡_, _∙_}
 use mathlib.Core.List.{List}
-use mathlib.Core.Bool.{Bool, _&&_}
+use mathlib.Core.Bool.{Bool}
 use native.Mathlib.Omega.{arith}
-use lib.Dec.{T, ltb}
+use lib.Dec.{T}
 use lib.ListN.{getD}
 use lib.IntN.{ℤ, pos}
-use lib.Signed.{mag}
 use mir.Syntax.{w16}
 use mir.Val.{toZ, ofZ}
 use borrow.Author.Needs.{needs}

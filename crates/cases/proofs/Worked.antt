@@ -1,0 +1,33 @@
+-- Each case holds because antt computes both of its sides to the same value.
+use mathlib.Core.Path.{refl}
+use Rattle.arith.specs.Arith.{roundShift, clampZ, modZ, wrapI32}
+use Rattle.tables.specs.Wheel.{quarter, wheel}
+use Rattle.params.specs.Judge.{goodTaps, goodLength, rowOf, coefficientFaults, magnitudes, rowFaults, rowsFaults, detectorPlace, zeroOutside, rowsOutside, goodPeriods, fieldFaults, faults, judged}
+use Rattle.params.specs.Offset.{partsOf, offsetOf}
+use Rattle.fixed.specs.Mix.{mixed}
+use Rattle.fixed.specs.Symbol.{quantised, gainError}
+use Rattle.cases.specs.Sheet.{rows, paramsWith, sheetOf, sheet, firstOfK}
+use Rattle.cases.specs.Worked.{placesFrom, Worked}
+use mathlib.Core.List.{flatten}
+
+pub worked : Worked
+unfolding flatten roundShift clampZ modZ wrapI32 quarter wheel goodTaps goodLength rowOf coefficientFaults magnitudes rowFaults rowsFaults detectorPlace zeroOutside rowsOutside goodPeriods fieldFaults faults judged partsOf offsetOf mixed quantised gainError rows paramsWith sheetOf sheet firstOfK placesFrom
+worked = record {
+  round-down = refl;
+  round-up = refl;
+  no-places = refl;
+  mixed-end = refl;
+  highest = refl;
+  lowest = refl;
+  sum-refused = refl;
+  coefficient-refused = refl;
+  sum-passes = refl;
+  least-refused = refl;
+  least-passes = refl;
+  most-passes = refl;
+  most-refused = refl;
+  detector = refl;
+  offset-above = refl;
+  offset-below = refl;
+  error-wraps = refl;
+}

@@ -1,0 +1,3 @@
+-- The worked cases of the definitions.
+pub mod Sheet
+pub mod Worked

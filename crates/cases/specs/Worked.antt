@@ -1,0 +1,71 @@
+-- The worked cases as one claim.
+-- (Document 01, 'Proved cases', P1 to P8 and P10, in their order.)
+use Prim.Native.Nat.{ℕ, zero, suc}
+use mathlib.Core.Path.{_≡_}
+use mathlib.Core.Bool.{cond}
+use mathlib.Core.List.{List, [], _∷_}
+use lib.IntN.{pos, negsuc}
+use Rattle.arith.specs.Arith.{roundShift}
+use Rattle.params.specs.declared.Params.{Params}
+use Rattle.params.specs.Refusal.{refusal, nothing}
+use Rattle.params.specs.Judge.{detectorPlace, judged}
+use Rattle.params.specs.Offset.{offsetOf}
+use Rattle.fixed.specs.Start.{noPair}
+use Rattle.fixed.specs.Mix.{mixed}
+use Rattle.fixed.specs.Symbol.{quantised, gainError}
+use Rattle.cases.specs.Sheet.{paramsWith, sheetOf, sheet, firstOfK}
+
+-- The detector's places among n taps from tap t on.
+unfoldable pub placesFrom : ℕ → ℕ → ℕ → List ℕ
+placesFrom taps t zero = []
+placesFrom taps t (suc n) = cond (detectorPlace taps t) (t ∷ placesFrom taps (suc t) n) (placesFrom taps (suc t) n)
+
+-- A sheet of which only the width of the output counts, and one of which only the power that the gain aims at does.
+abbrev pub narrow : Params
+narrow = record {
+  taps = 4;
+  «nco_step» = pos 0;
+  «period_nominal» = 0;
+  «period_min» = 0;
+  «period_max» = 0;
+  «ted_shift» = 0;
+  kp = pos 0;
+  «kp_shift» = 0;
+  ki = pos 0;
+  «ki_shift» = 0;
+  «integrator_max» = pos 0;
+  «agc_init» = 0;
+  «agc_target» = 2147483648;
+  «agc_shift» = 0;
+  bits = 2;
+  «q_shift» = 0;
+  «block_log2» = 0;
+}
+
+pub record Worked : Type 0 where
+  -- P1
+  pub round-down : roundShift (negsuc 2) 1 ≡ negsuc 0
+  pub round-up : roundShift (pos 3) 1 ≡ pos 2
+  pub no-places : roundShift (pos 5) 0 ≡ pos 5
+  -- P2
+  pub mixed-end : mixed 0 (record { i = negsuc 32767; q = pos 0 }) ≡ record { i = negsuc 32766; q = pos 0 }
+  -- P3
+  pub highest : quantised narrow (pos 32767) ≡ pos 1
+  pub lowest : quantised narrow (negsuc 32767) ≡ negsuc 1
+  -- P4
+  pub sum-refused : judged (firstOfK (negsuc 131071)) ≡ refusal 4 (pos 2 ∷ pos 0 ∷ pos 131072 ∷ [])
+  pub coefficient-refused : judged (firstOfK (pos 131072)) ≡ refusal 3 (pos 2 ∷ pos 0 ∷ pos 131072 ∷ [])
+  pub sum-passes : judged (firstOfK (pos 131071)) ≡ nothing
+  -- P5
+  pub least-refused : judged (sheetOf (paramsWith 33554432 16777216 34225520)) ≡ refusal 6 []
+  pub least-passes : judged (sheetOf (paramsWith 33554432 16777217 34225520)) ≡ nothing
+  -- P6
+  pub most-passes : judged (sheetOf (paramsWith 33554432 32883343 67108863)) ≡ nothing
+  pub most-refused : judged (sheetOf (paramsWith 33554432 32883343 67108864)) ≡ refusal 6 []
+  -- P7
+  pub detector : placesFrom 32 0 32 ≡ (12 ∷ 13 ∷ 14 ∷ 15 ∷ 16 ∷ 17 ∷ 18 ∷ 19 ∷ [])
+  -- P8
+  pub offset-above : offsetOf sheet 33554465 ≡ record { refused = nothing; parts = pos 983 }
+  pub offset-below : offsetOf sheet 33554399 ≡ record { refused = nothing; parts = negsuc 983 }
+  -- P10
+  pub error-wraps : gainError narrow noPair ≡ negsuc 2147483647

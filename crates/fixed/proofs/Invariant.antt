@@ -1,0 +1,333 @@
+-- What holds of a state and of the symbols made on the way to it from a fresh start, kept by each sample; and what it says of each symbol.
+-- A sample without a symbol takes a whole sample off the time; one with a symbol adds the period that the symbol reports, so times and periods keep in step.
+use Prim.Native.Nat.{ℕ, zero, suc, _+_, _-_, _*_, _/_, _%_, _≤_, _<_, min}
+use mathlib.Core.Path.{_≡_, refl, sym, ap, _∙_}
+use mathlib.Core.Logic.{_≢_}
+use mathlib.Core.Bool.{Bool, true, false, cond}
+use mathlib.Core.List.{List, [], _∷_, _++_, append-assoc, append-nil}
+use native.Mathlib.Omega.{arith}
+use lib.Dec.{ltb, eqb}
+use lib.ListN.{length, getD, set, take, length-append, length-set, List·getD-append}
+use lib.Seq.{take-suc, take-append-le, getD-at, getD-set-same, getD-set-other}
+use lib.IntN.{ℤ, pos, natAbs, _+ℤ_, _-ℤ_}
+use lib.Signed.{ltZ}
+use borrow.Author.Tests.{ltb-true, ltb-false, eqb-true, eqb-false}
+use Rattle.arith.proofs.Order.{eq-pn, minus-pn}
+use Rattle.params.specs.declared.Params.{Params}
+use Rattle.params.specs.Judge.{Sheet}
+use Rattle.params.proofs.Accepted.{Accepted}
+use Rattle.fixed.specs.declared.Pair.{Pair}
+use Rattle.fixed.specs.declared.Pending.{Pending}
+use Rattle.fixed.specs.declared.Registers.{Registers}
+use Rattle.fixed.specs.declared.Frontend.{Frontend}
+use Rattle.fixed.specs.declared.Symbol.{Symbol}
+use Rattle.fixed.specs.Start.{noPending, fresh}
+use Rattle.fixed.specs.Line.{nextHead}
+use Rattle.fixed.specs.Loop.{loopDelay, corrected}
+use Rattle.fixed.specs.Symbol.{due, symbolOf}
+use Rattle.fixed.specs.Sample.{one, joined, withSymbol, withoutSymbol, falls, next, madeBy, after, emitted}
+use Rattle.fixed.proofs.Loops.{total, total-append, errors, errorsOf, errors-append, length-errors, Loop, loopOf, corrected-moves, movedBy, movedBy-snoc, freshLoop, Within, loop-within}
+
+-- a difference of naturals that is not below zero
+minus-nat : (a b : ℕ) → b ≤ a → pos a -ℤ pos b ≡ pos (a - b)
+minus-nat a b h = eq-pn (pos a -ℤ pos b) (pos (a - b)) (omega (arith, minus-pn (pos a) (pos b)))
+
+-- time to the next symbol, in 2^24ths of a sample
+abbrev pub time : Frontend → ℕ
+time f = natAbs (f .registers .«t_acc»)
+
+module _ (s : Sheet) where
+  -- the loop after the errors of all but the newest `late` of the symbols S
+  abbrev pub loopAt : List Symbol → ℕ → Loop
+  loopAt S late = movedBy (s .params) (freshLoop (s .params)) (take (length S - late) (errors S))
+
+  pub record Inv (f : Frontend) (S : List Symbol) : Type 0 where
+    pub symbols : f .registers .symbols ≡ length S
+    pub whole : f .registers .«t_acc» ≡ pos (time f)
+    pub sum : f .samples * 16777216 + time f ≡ total S
+    pub rest : time f < 67108863
+    pub loop : loopOf (f .registers) ≡ loopAt S loopDelay
+    pub size : length (f .pending) ≡ 24
+    pub waiting : f .waiting ≡ min (length S) loopDelay
+    pub oldest : f .oldest ≡ (length S - loopDelay) % 24
+    pub queue : (j : ℕ) → j < length S → length S ≤ j + loopDelay → getD (f .pending) (j % 24) noPending ≡ getD (errors S) j noPending
+    pub few : length S ≤ f .samples
+    pub head : f .head < s .params .taps
+
+  -- what holds of a symbol, by the symbols before it
+  pub record Placed (S : List Symbol) (y : Symbol) : Type 0 where
+    pub place : y .sample * 64 + y .phase ≡ total S / 262144
+    pub phase : y .phase < 64
+    pub period : y .period ≡ loopAt S (loopDelay - 1) .period
+    pub gain : y .gain ≡ loopAt S (loopDelay - 1) .gain / 256
+
+  -- the same of each symbol of a list that comes after S
+  abbrev pub Each : List Symbol → List Symbol → Type 0
+  Each S [] = Unit {0}
+  Each S (y ∷ ys) = Placed S y × Each (S ++ (y ∷ [])) ys
+
+  each-append : (S A B : List Symbol) → Each S A → Each (S ++ A) B → Each S (A ++ B)
+  each-append S [] B a b = rw (append-nil S) at b
+  each-append S (y ∷ A) B a b = (a .0, each-append (S ++ (y ∷ [])) A B (a .1) (rw (append-assoc S (y ∷ []) A) b))
+
+  pub each-at : (S Z : List Symbol) → Each S Z → (k : ℕ) (d : Symbol) → k < length Z → Placed (S ++ take k Z) (getD Z k d)
+  each-at S [] e k d h = absurd (omega arith)
+  each-at S (y ∷ Z) e zero d h = rw (append-nil S) (e .0)
+  each-at S (y ∷ Z) e (suc k) d h = rw (append-assoc S (y ∷ []) (take k Z)) at (each-at (S ++ (y ∷ [])) Z (e .1) k d (omega arith))
+
+  module _ (a : Accepted s) where
+    pub fresh-inv : Inv (fresh (s .params)) []
+    unfolding fresh total errors movedBy
+    fresh-inv = record {
+      symbols = refl;
+      whole = refl;
+      sum = refl;
+      rest = omega arith;
+      loop = refl;
+      size = refl;
+      waiting = refl;
+      oldest = refl;
+      queue = λ j h k. absurd (omega arith);
+      few = omega arith;
+      head = omega (arith, a .taps .least);
+    }
+
+    -- ---- mixing and the line leave all of it as it was, but for the newest's position
+
+    head-below : (taps head : ℕ) → 4 ≤ taps → head < taps → nextHead taps head < taps
+    unfolding nextHead
+    head-below taps head l h = go (eqb head 0) refl
+      where
+        go : (b : Bool) → eqb head 0 ≡ b → cond (eqb head 0) (taps - 1) (head - 1) < taps
+        go true e = rw e (omega arith)
+        go false e = rw e (omega arith)
+
+    joined-inv : (f : Frontend) (S : List Symbol) (x : Pair) → Inv f S → Inv (joined s f x) S
+    unfolding joined
+    joined-inv f S x i = record {
+      symbols = i .symbols;
+      whole = i .whole;
+      sum = i .sum;
+      rest = i .rest;
+      loop = i .loop;
+      size = i .size;
+      waiting = i .waiting;
+      oldest = i .oldest;
+      queue = i .queue;
+      few = i .few;
+      head = head-below (s .params .taps) (f .head) (a .taps .least) (i .head);
+    }
+
+    -- ---- a sample without a symbol
+
+    silent-inv : (f : Frontend) (S : List Symbol) → 16777216 ≤ time f → Inv f S → Inv (withoutSymbol f) S
+    unfolding withoutSymbol
+    silent-inv f S h i =
+        let t : f .registers .«t_acc» -ℤ one ≡ pos (time f - 16777216) = rw (i .whole) (minus-nat (time f) 16777216 h) in
+        let n : natAbs (f .registers .«t_acc» -ℤ one) ≡ time f - 16777216 = ap natAbs t in
+        record {
+          symbols = i .symbols;
+          whole = t ∙ ap pos (sym n);
+          sum = omega arith;
+          rest = omega arith;
+          loop = i .loop;
+          size = i .size;
+          waiting = i .waiting;
+          oldest = i .oldest;
+          queue = i .queue;
+          few = omega arith;
+          head = i .head;
+        }
+
+    -- ---- a sample with one
+
+    -- the errors that are due move the loop, and nothing else
+    due-time : (f : Frontend) → due (s .params) f .«t_acc» ≡ f .registers .«t_acc»
+    unfolding due corrected
+    due-time f = go (eqb (f .waiting) loopDelay) refl
+      where
+        go : (b : Bool) → eqb (f .waiting) loopDelay ≡ b → due (s .params) f .«t_acc» ≡ f .registers .«t_acc»
+        go true e = rw e
+        go false e = rw e
+
+    due-symbols : (f : Frontend) → due (s .params) f .symbols ≡ f .registers .symbols
+    unfolding due corrected
+    due-symbols f = go (eqb (f .waiting) loopDelay) refl
+      where
+        go : (b : Bool) → eqb (f .waiting) loopDelay ≡ b → due (s .params) f .symbols ≡ f .registers .symbols
+        go true e = rw e
+        go false e = rw e
+
+    -- the loop as a symbol finds it: after the errors of all but the newest before it, one fewer than the delay
+    due-loop : (f : Frontend) (S : List Symbol) → Inv f S → loopOf (due (s .params) f) ≡ loopAt S (loopDelay - 1)
+    unfolding due
+    due-loop f S i = go (eqb (f .waiting) loopDelay) refl
+      where
+        p : Params
+        p = s .params
+
+        n : ℕ
+        n = length S - loopDelay
+
+        oldest : Pending
+        oldest = getD (f .pending) (f .oldest) noPending
+
+        go : (b : Bool) → eqb (f .waiting) loopDelay ≡ b → loopOf (due (s .params) f) ≡ loopAt S (loopDelay - 1)
+        go true e =
+            let c : f .waiting ≡ loopDelay = eqb-true (f .waiting) loopDelay e in
+            let q : oldest ≡ getD (errors S) n noPending = rw (i .oldest) (i .queue n (omega arith) (omega arith)) in
+            let m : length S - (loopDelay - 1) ≡ suc n = omega arith in
+            rw (e, corrected-moves p (f .registers) oldest, i .loop, q, m, take-suc (errors S) n noPending (omega (arith, length-errors S)))
+            (sym (movedBy-snoc p (freshLoop p) (take n (errors S)) (getD (errors S) n noPending)))
+        go false e =
+            let c : f .waiting ≢ loopDelay = eqb-false (f .waiting) loopDelay e in
+            let q : n ≡ length S - (loopDelay - 1) = omega arith in
+            rw (e, i .loop, q)
+
+    pub loopAt-within : (S : List Symbol) (late : ℕ) → Within (s .params) (loopAt S late)
+    loopAt-within S late = loop-within (s .params) (a .periods) (a .fields) (take (length S - late) (errors S))
+
+    symbol-placed : (f : Frontend) (S : List Symbol) → Inv f S → time f < 16777216 → Placed S (symbolOf s f)
+    unfolding symbolOf
+    symbol-placed f S i h = record {
+      place = omega arith;
+      phase = omega arith;
+      period = ap (λ (l : Loop). l .period) (due-loop f S i);
+      gain = ap (λ (l : Loop). l .gain / 256) (due-loop f S i);
+    }
+
+    -- a new error goes to the place of its symbol's number modulo 24
+    slot : (f : Frontend) (S : List Symbol) → Inv f S → (f .oldest + f .waiting) % 24 ≡ length S % 24
+    slot f S i = omega arith
+
+    -- a symbol more leaves the errors that are due as they were
+    loopAt-snoc : (S : List Symbol) (y : Symbol) → loopAt (S ++ (y ∷ [])) loopDelay ≡ loopAt S (loopDelay - 1)
+    unfolding errors
+    loopAt-snoc S y =
+        let m : length (S ++ (y ∷ [])) - loopDelay ≡ length S - (loopDelay - 1) = omega (arith, length-append S (y ∷ [])) in
+        rw (m, errors-append S (y ∷ []), take-append-le (length S - (loopDelay - 1)) (errors S) (errorsOf y ∷ []) (omega (arith, length-errors S)))
+
+    -- the ring, a symbol on
+    queue-snoc : (l : List Pending) (S : List Symbol) (w : Pending) → length l ≡ 24
+        → ((j : ℕ) → j < length S → length S ≤ j + loopDelay → getD l (j % 24) noPending ≡ getD (errors S) j noPending)
+        → (j : ℕ) → j < length S + 1 → length S + 1 ≤ j + loopDelay
+        → getD (set l (length S % 24) w) (j % 24) noPending ≡ getD (errors S ++ (w ∷ [])) j noPending
+    queue-snoc l S w z q j u v = go (eqb j (length S)) refl
+      where
+        go : (e : Bool) → eqb j (length S) ≡ e → getD (set l (length S % 24) w) (j % 24) noPending ≡ getD (errors S ++ (w ∷ [])) j noPending
+        go true e =
+            rw (eqb-true j (length S) e, getD-set-same l (length S % 24) w noPending (omega arith), getD-at (errors S) w [] noPending (length S) (length-errors S))
+        go false e =
+            let d : j ≢ length S = eqb-false j (length S) e in
+            rw (getD-set-other l (length S % 24) (j % 24) w noPending (omega arith), List·getD-append (errors S) (w ∷ []) noPending j (omega (arith, length-errors S)))
+            (q j (omega arith) (omega arith))
+
+    waiting-next : (n c : ℕ) → c ≡ min n loopDelay → cond (eqb c loopDelay) loopDelay (c + 1) ≡ min (n + 1) loopDelay
+    waiting-next n c h = go (eqb c loopDelay) refl
+      where
+        go : (e : Bool) → eqb c loopDelay ≡ e → cond (eqb c loopDelay) loopDelay (c + 1) ≡ min (n + 1) loopDelay
+        go true e = rw e (omega (arith, eqb-true c loopDelay e))
+        go false e = let d : c ≢ loopDelay = eqb-false c loopDelay e in rw e (omega arith)
+
+    oldest-next : (n c o : ℕ) → c ≡ min n loopDelay → o ≡ (n - loopDelay) % 24 → cond (eqb c loopDelay) ((o + 1) % 24) o ≡ (n + 1 - loopDelay) % 24
+    oldest-next n c o h l = go (eqb c loopDelay) refl
+      where
+        go : (e : Bool) → eqb c loopDelay ≡ e → cond (eqb c loopDelay) ((o + 1) % 24) o ≡ (n + 1 - loopDelay) % 24
+        go true e = rw e (omega (arith, eqb-true c loopDelay e))
+        go false e = let d : c ≢ loopDelay = eqb-false c loopDelay e in rw e (omega arith)
+
+    total-snoc : (f : Frontend) (S : List Symbol) → total (S ++ (symbolOf s f ∷ [])) ≡ total S + due (s .params) f .period
+    unfolding total symbolOf
+    total-snoc f S = omega (arith, total-append S (symbolOf s f ∷ []))
+
+    -- the time after a symbol
+    time-on : (f : Frontend) (S : List Symbol) → Inv f S
+        → due (s .params) f .«t_acc» +ℤ pos (due (s .params) f .period) -ℤ one ≡ pos (time f + due (s .params) f .period - 16777216)
+    time-on f S i =
+        let w : Within (s .params) (loopOf (due (s .params) f)) = rw (due-loop f S i) (loopAt-within S (loopDelay - 1)) in
+        ap (λ (z : ℤ). z +ℤ pos (due (s .params) f .period) -ℤ one) (due-time f ∙ i .whole)
+        ∙ minus-nat (time f + due (s .params) f .period) 16777216 (omega (arith, a .periods))
+
+    sounded-inv : (f : Frontend) (S : List Symbol) → Inv f S → time f < 16777216 → Inv (withSymbol s f) (S ++ (symbolOf s f ∷ []))
+    unfolding withSymbol errors
+    sounded-inv f S i h =
+        let y : Symbol = symbolOf s f in
+        let r : Registers = due (s .params) f in
+        let len : length (S ++ (y ∷ [])) ≡ length S + 1 = length-append S (y ∷ []) in
+        let w : Within (s .params) (loopOf r) = rw (due-loop f S i) (loopAt-within S (loopDelay - 1)) in
+        let t = time-on f S i in
+        let n : natAbs (r .«t_acc» +ℤ pos (r .period) -ℤ one) ≡ time f + r .period - 16777216 = ap natAbs t in
+        record {
+          symbols = omega (arith, due-symbols f);
+          whole = t ∙ ap pos (sym n);
+          sum = omega (arith, total-snoc f S, a .periods);
+          rest = omega (arith, a .periods);
+          loop = due-loop f S i ∙ sym (loopAt-snoc S y);
+          size = length-set (f .pending) _ _ ∙ i .size;
+          waiting = rw len (waiting-next (length S) (f .waiting) (i .waiting));
+          oldest = rw len (oldest-next (length S) (f .waiting) (f .oldest) (i .waiting) (i .oldest));
+          queue = λ j u v. rw (slot f S i, errors-append S (y ∷ [])) (queue-snoc (f .pending) S (errorsOf y) (i .size) (i .queue) j (omega arith) (omega arith));
+          few = omega arith;
+          head = i .head;
+        }
+
+    -- ---- a sample, and a run
+
+    -- whether a symbol falls due, of a time that is not below zero
+    falls-is : (f : Frontend) (S : List Symbol) → Inv f S → falls f ≡ ltb (time f) 16777216
+    falls-is f S i = ap (λ (z : ℤ). ltZ z one) (i .whole)
+
+    next-is : (f : Frontend) (x : Pair) (b : Bool) → falls f ≡ b → next s f x ≡ cond b (withSymbol s (joined s f x)) (withoutSymbol (joined s f x))
+    unfolding next
+    next-is f x b e = ap (λ (t : Bool). cond t (withSymbol s (joined s f x)) (withoutSymbol (joined s f x))) e
+
+    made-is : (f : Frontend) (x : Pair) (b : Bool) → falls f ≡ b → madeBy s f x ≡ cond b (symbolOf s (joined s f x) ∷ []) []
+    unfolding madeBy
+    made-is f x b e = ap (λ (t : Bool). cond t (symbolOf s (joined s f x) ∷ []) []) e
+
+    next-inv : (f : Frontend) (S : List Symbol) (x : Pair) → Inv f S → Inv (next s f x) (S ++ madeBy s f x)
+    unfolding joined
+    next-inv f S x i = go (falls f) refl
+      where
+        go : (b : Bool) → falls f ≡ b → Inv (next s f x) (S ++ madeBy s f x)
+        go true e =
+            rw (next-is f x true e, made-is f x true e)
+            (sounded-inv (joined s f x) S (joined-inv f S x i) (ltb-true (time f) 16777216 (sym (falls-is f S i) ∙ e)))
+        go false e =
+            rw (next-is f x false e, made-is f x false e, append-nil S)
+            (silent-inv (joined s f x) S (ltb-false (time f) 16777216 (sym (falls-is f S i) ∙ e)) (joined-inv f S x i))
+
+    next-placed : (f : Frontend) (S : List Symbol) (x : Pair) → Inv f S → Each S (madeBy s f x)
+    unfolding joined
+    next-placed f S x i = go (falls f) refl
+      where
+        go : (b : Bool) → falls f ≡ b → Each S (madeBy s f x)
+        go true e =
+            rw (made-is f x true e)
+            (symbol-placed (joined s f x) S (joined-inv f S x i) (ltb-true (time f) 16777216 (sym (falls-is f S i) ∙ e)), tt)
+        go false e = rw (made-is f x false e) tt
+
+    pub run-inv : (f : Frontend) (S : List Symbol) (xs : List Pair) → Inv f S → Inv (after s f xs) (S ++ emitted s f xs)
+    unfolding after emitted
+    run-inv f S [] i = rw (append-nil S) i
+    run-inv f S (x ∷ xs) i =
+        rw (append-assoc S (madeBy s f x) (emitted s (next s f x) xs)) at (run-inv (next s f x) (S ++ madeBy s f x) xs (next-inv f S x i))
+
+    pub run-placed : (f : Frontend) (S : List Symbol) (xs : List Pair) → Inv f S → Each S (emitted s f xs)
+    unfolding after emitted
+    run-placed f S [] i = tt
+    run-placed f S (x ∷ xs) i =
+        each-append S (madeBy s f x) (emitted s (next s f x) xs) (next-placed f S x i) (run-placed (next s f x) (S ++ madeBy s f x) xs (next-inv f S x i))
+
+    next-samples : (f : Frontend) (x : Pair) → next s f x .samples ≡ f .samples + 1
+    unfolding joined withSymbol withoutSymbol
+    next-samples f x = go (falls f) refl
+      where
+        go : (b : Bool) → falls f ≡ b → next s f x .samples ≡ f .samples + 1
+        go true e = rw (next-is f x true e)
+        go false e = rw (next-is f x false e)
+
+    pub run-samples : (f : Frontend) (xs : List Pair) → after s f xs .samples ≡ f .samples + length xs
+    unfolding after
+    run-samples f [] = omega arith
+    run-samples f (x ∷ xs) = omega (arith, run-samples (next s f x) xs, next-samples f x)

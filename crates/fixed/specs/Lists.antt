@@ -1,0 +1,62 @@
+-- Lists of block calls: each call is given the state that the one before it handed back, whether that was refused or not.
+-- (Document 01, 'A block': lists of block calls.)
+use Prim.Native.Nat.{ℕ, _+_, _*_}
+use mathlib.Core.Bool.{cond}
+use mathlib.Core.List.{List, [], _∷_, _++_}
+use lib.Dec.{eqb}
+use lib.ListN.{take}
+use lib.IntN.{ℤ}
+use Rattle.params.specs.Judge.{Sheet}
+use Rattle.fixed.specs.declared.Pair.{Pair}
+use Rattle.fixed.specs.declared.Frontend.{Frontend}
+use Rattle.fixed.specs.Start.{startOf}
+use Rattle.fixed.specs.Block.{Block, pairsOf, blockOf}
+
+-- A call's sample values and its output buffer: any of either.
+pub record Call : Type 0 where
+  pub values : List ℤ
+  pub out : List ℤ
+
+abbrev pub answer : Sheet → Frontend → Call → Block
+answer s f c = blockOf s f (c .values) (c .out)
+
+-- The state that the last of some calls hands back; the one before them where there is none.
+unfoldable pub stateAfter : Sheet → Frontend → List Call → Frontend
+stateAfter s f [] = f
+stateAfter s f (c ∷ cs) = stateAfter s (answer s f c .state) cs
+
+-- The samples that a call takes: all of its pairs, or none where it is refused.
+abbrev pub takenBy : Sheet → Frontend → Call → List Pair
+takenBy s f c = cond (eqb (answer s f c .refused .number) 0) (pairsOf (c .values)) []
+
+-- The same of some calls, joined in order.
+unfoldable pub taken : Sheet → Frontend → List Call → List Pair
+taken s f [] = []
+taken s f (c ∷ cs) = takenBy s f c ++ taken s (answer s f c .state) cs
+
+-- The first 20 × count places that each call wrote, joined in order. A refused call counts none.
+unfoldable pub written : Sheet → Frontend → List Call → List ℤ
+written s f [] = []
+written s f (c ∷ cs) = take (20 * answer s f c .count) (answer s f c .output) ++ written s (answer s f c .state) cs
+
+-- How many symbols they counted in all.
+unfoldable pub counted : Sheet → Frontend → List Call → ℕ
+counted s f [] = 0
+counted s f (c ∷ cs) = answer s f c .count + counted s (answer s f c .state) cs
+
+-- ---- of a list that begins with the state that starting gave
+
+abbrev pub first : Sheet → Frontend
+first s = startOf s .state
+
+abbrev pub endState : Sheet → List Call → Frontend
+endState s cs = stateAfter s (first s) cs
+
+abbrev pub samplesOf : Sheet → List Call → List Pair
+samplesOf s cs = taken s (first s) cs
+
+abbrev pub placesWritten : Sheet → List Call → List ℤ
+placesWritten s cs = written s (first s) cs
+
+abbrev pub symbolCount : Sheet → List Call → ℕ
+symbolCount s cs = counted s (first s) cs

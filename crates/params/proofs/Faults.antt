@@ -1,0 +1,72 @@
+-- Lists of faults. Every fault has a number other than 0, so an answer of nothing says that there is no fault at all,
+-- and of faults that are looked for one after the other none then has any.
+use Prim.Native.Nat.{ℕ, zero, suc, _<_}
+use mathlib.Core.Path.{_≡_, refl, ap}
+use mathlib.Core.Bool.{Bool, true, false}
+use mathlib.Core.List.{List, [], _∷_, _++_, flatten, append-eq-nil-iff, nil≢cons}
+use native.Mathlib.Omega.{arith}
+use lib.Dec.{lit<}
+use lib.ListN.{getD}
+use lib.IntN.{ℤ}
+use Rattle.params.specs.declared.Params.{Params}
+use Rattle.params.specs.Refusal.{Refusal, nothing}
+use Rattle.params.specs.Judge.{Sheet, unless, firstOf, coefficientFaults, rowFaults, rowsFaults, fieldFaults, faults}
+
+abbrev pub Numbered : List Refusal → Type 0
+Numbered [] = Unit {0}
+Numbered (r ∷ rs) = (0 < r .number) × Numbered rs
+
+pub numbered-append : (a b : List Refusal) → Numbered a → Numbered b → Numbered (a ++ b)
+numbered-append [] b p q = q
+numbered-append (r ∷ a) b p q = (p .0, numbered-append a b (p .1) q)
+
+pub numbered-unless : (kept : Bool) (r : Refusal) → 0 < r .number → Numbered (unless kept r)
+numbered-unless true r h = tt
+numbered-unless false r h = (h, tt)
+
+pub first-none : (rs : List Refusal) → Numbered rs → firstOf rs .number ≡ 0 → rs ≡ []
+first-none [] n e = refl
+first-none (r ∷ rs) n e = absurd (omega arith)
+
+-- the other way round
+pub none-first : (rs : List Refusal) → rs ≡ [] → firstOf rs ≡ nothing
+none-first rs e = ap firstOf e
+
+-- a rule that is not broken is kept
+pub kept : (b : Bool) (r : Refusal) → unless b r ≡ [] → b ≡ true
+kept true r e = refl
+kept false r e = absurd (cons-nil e)
+  where
+    cons-nil : r ∷ [] ≡ [] → ⊥
+    cons-nil p = nil≢cons (mathlib.Core.Path.sym p)
+
+-- faults that are looked for one after the other: where there is none, there is none of the k-th kind
+pub none-at : (ls : List (List Refusal)) → flatten ls ≡ [] → (k : ℕ) → getD ls k [] ≡ []
+unfolding flatten
+none-at [] e k = refl
+none-at (l ∷ ls) e zero = append-eq-nil-iff {p = l} {q = flatten ls} .0 e .0
+none-at (l ∷ ls) e (suc k) = none-at ls (append-eq-nil-iff {p = l} {q = flatten ls} .0 e .1) k
+
+-- ---- the faults of judging
+
+coefficients-numbered : (bank r : ℕ) (row : List ℤ) → Numbered (coefficientFaults bank r row)
+unfolding coefficientFaults
+coefficients-numbered bank r [] = tt
+coefficients-numbered bank r (c ∷ row) = let rest = coefficients-numbered bank r row in search (numbered-append, numbered-unless, lit<)
+
+row-numbered : (bank r : ℕ) (row : List ℤ) → Numbered (rowFaults bank r row)
+unfolding rowFaults
+row-numbered bank r row = search (numbered-append, numbered-unless, coefficients-numbered, lit<)
+
+rows-numbered : (taps bank : ℕ) (cs : List ℤ) (r n : ℕ) → Numbered (rowsFaults taps bank cs r n)
+unfolding rowsFaults
+rows-numbered taps bank cs r zero = tt
+rows-numbered taps bank cs r (suc n) = let rest = rows-numbered taps bank cs (suc r) n in search (numbered-append, row-numbered)
+
+fields-numbered : (p : Params) → Numbered (fieldFaults p)
+unfolding fieldFaults flatten
+fields-numbered p = search (numbered-append, numbered-unless, lit<) depth 20
+
+pub faults-numbered : (s : Sheet) → Numbered (faults s)
+unfolding faults flatten
+faults-numbered s = search (numbered-append, numbered-unless, rows-numbered, fields-numbered, lit<) depth 30

@@ -1,0 +1,3 @@
+-- What follows from a sheet's being accepted.
+pub mod Faults
+pub mod Accepted

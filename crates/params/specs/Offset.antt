@@ -1,0 +1,38 @@
+-- The offset of a period from the nominal one.
+-- (Document 01, 'Around the path': the offset.)
+use Prim.Native.Nat.{ℕ}
+use mathlib.Core.Bool.{cond, _&&_}
+use mathlib.Core.List.{[], _++_}
+use lib.Dec.{leb, eqb}
+use lib.IntN.{ℤ, pos, _-ℤ_, _*ℤ_}
+use lib.Signed.{shrZ}
+use Rattle.params.specs.declared.Params.{Params}
+use Rattle.params.specs.declared.Offset.{Offset}
+use Rattle.params.specs.declared.OffsetVerdict.{OffsetVerdict}
+use Rattle.params.specs.Refusal.{Refusal, refusal, nothing, errorRefusal}
+use Rattle.params.specs.Judge.{Sheet, unless, firstOf, faults}
+
+-- A refusal, or nothing, with a number of parts.
+pub record Parts : Type 0 where
+  pub refused : Refusal
+  pub parts : ℤ
+
+-- The number of each case of an offset's answer: its sheet's, or 13.
+abbrev pub offsetRefusal : OffsetVerdict → Refusal
+offsetRefusal OffsetVerdict.Accepted = nothing
+offsetRefusal (OffsetVerdict.Params e) = errorRefusal e
+offsetRefusal OffsetVerdict.Period = refusal 13 []
+
+abbrev pub offsetParts : Offset → Parts
+offsetParts o = record { refused = offsetRefusal (o .verdict); parts = o .parts }
+
+-- How far the period lies from the nominal one, in parts per thousand million of that, rounded down.
+unfoldable pub partsOf : Params → ℕ → ℤ
+partsOf p period = shrZ ((pos period -ℤ pos (p .«period_nominal»)) *ℤ pos 1000000000) (p .«period_nominal»)
+
+-- The answer: after 1 to 8, 13 for a period outside the sheet's bounds; 0 parts where it is refused.
+unfoldable pub offsetOf : Sheet → ℕ → Parts
+offsetOf s period =
+    let p : Params = s .params in
+    let r : Refusal = firstOf (faults s ++ unless (leb (p .«period_min») period && leb period (p .«period_max»)) (refusal 13 [])) in
+    record { refused = r; parts = cond (eqb (r .number) 0) (partsOf p period) (pos 0) }
