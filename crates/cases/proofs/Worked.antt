@@ -2,7 +2,7 @@
 use mathlib.Core.Path.{refl}
 use Rattle.arith.specs.Arith.{roundShift, clampZ, modZ, wrapI32}
 use Rattle.tables.specs.Wheel.{quarter, wheel}
-use Rattle.params.specs.Judge.{goodTaps, goodLength, rowOf, coefficientFaults, magnitudes, rowFaults, rowsFaults, detectorPlace, zeroOutside, rowsOutside, goodPeriods, fieldFaults, faults, judged}
+use Rattle.params.specs.Judge.{goodTaps, goodLength, rowOf, coefficientFaults, magnitudes, rowFaults, rowsFaults, detectorPlace, zeroOutside, rowsOutside, lengthFaults, bankFaults, goodPeriods, fieldFaults, faults, judged}
 use Rattle.params.specs.Offset.{partsOf, offsetOf}
 use Rattle.fixed.specs.Mix.{mixed}
 use Rattle.fixed.specs.Symbol.{quantised, gainError}
@@ -11,7 +11,7 @@ use Rattle.cases.specs.Worked.{placesFrom, Worked}
 use mathlib.Core.List.{flatten}
 
 pub worked : Worked
-unfolding flatten roundShift clampZ modZ wrapI32 quarter wheel goodTaps goodLength rowOf coefficientFaults magnitudes rowFaults rowsFaults detectorPlace zeroOutside rowsOutside goodPeriods fieldFaults faults judged partsOf offsetOf mixed quantised gainError rows paramsWith sheetOf sheet firstOfK placesFrom
+unfolding flatten roundShift clampZ modZ wrapI32 quarter wheel goodTaps goodLength rowOf coefficientFaults magnitudes rowFaults rowsFaults detectorPlace zeroOutside lengthFaults bankFaults rowsOutside goodPeriods fieldFaults faults judged partsOf offsetOf mixed quantised gainError rows paramsWith sheetOf sheet firstOfK placesFrom
 worked = record {
   round-down = refl;
   round-up = refl;

@@ -89,7 +89,7 @@ module _ (s : Sheet) where
       oldest = refl;
       queue = λ j h k. absurd (omega arith);
       few = omega arith;
-      head = omega (arith, a .taps .least);
+      head = omega (arith, a .lengths .good .least);
     }
 
     -- ---- mixing and the line leave all of it as it was, but for the newest's position
@@ -115,7 +115,7 @@ module _ (s : Sheet) where
       oldest = i .oldest;
       queue = i .queue;
       few = i .few;
-      head = head-below (s .params .taps) (f .head) (a .taps .least) (i .head);
+      head = head-below (s .params .taps) (f .head) (a .lengths .good .least) (i .head);
     }
 
     -- ---- a sample without a symbol

@@ -10,8 +10,8 @@ use lib.IntN.{ℤ, pos, negsuc}
 use borrow.Author.Tests.{ltb-true, leb-true, eqb-true}
 use Rattle.params.specs.declared.Params.{Params}
 use Rattle.params.specs.Refusal.{Refusal, refusal, nothing}
-use Rattle.params.specs.Judge.{Sheet, goodTaps, goodLength, bankFaults, rowsOutside, goodPeriods, fieldFault, fieldFaults, faults, judged}
-use Rattle.params.proofs.Faults.{kept, none-at, first-none, faults-numbered}
+use Rattle.params.specs.Judge.{Sheet, goodTaps, goodLength, lengthFaults, rowsFaults, bankFaults, rowsOutside, goodPeriods, fieldFault, fieldFaults, faults, judged}
+use Rattle.params.proofs.Faults.{kept, none-at, none-left, none-right, first-none, faults-numbered}
 
 -- ---- tests joined by "and"
 
@@ -47,16 +47,22 @@ pub record GoodFields (p : Params) : Type 0 where
   pub ki-shift : p .«ki_shift» ≤ 40
   pub agc-shift : p .«agc_shift» ≤ 63
 
+pub record GoodBanks (taps : ℕ) (h g k : List ℤ) : Type 0 where
+  pub rows-h : rowsFaults taps 0 h 0 64 ≡ []
+  pub rows-g : rowsFaults taps 1 g 0 64 ≡ []
+  pub rows-k : rowsFaults taps 2 k 0 64 ≡ []
+  pub outside-h : rowsOutside taps h 0 64 ≡ true
+  pub outside-g : rowsOutside taps g 0 64 ≡ true
+
+pub record GoodLengths (taps : ℕ) (h g k : List ℤ) : Type 0 where
+  pub good : GoodTaps taps
+  pub long-h : length h ≡ 64 * taps
+  pub long-g : length g ≡ 64 * taps
+  pub long-k : length k ≡ 64 * taps
+
 pub record Accepted (s : Sheet) : Type 0 where
-  pub taps : GoodTaps (s .params .taps)
-  pub long-h : length (s .h) ≡ 64 * s .params .taps
-  pub long-g : length (s .g) ≡ 64 * s .params .taps
-  pub long-k : length (s .k) ≡ 64 * s .params .taps
-  pub rows-h : bankFaults (s .params .taps) 0 (s .h) ≡ []
-  pub rows-g : bankFaults (s .params .taps) 1 (s .g) ≡ []
-  pub rows-k : bankFaults (s .params .taps) 2 (s .k) ≡ []
-  pub outside-h : rowsOutside (s .params .taps) (s .h) 0 64 ≡ true
-  pub outside-g : rowsOutside (s .params .taps) (s .g) 0 64 ≡ true
+  pub lengths : GoodLengths (s .params .taps) (s .h) (s .g) (s .k)
+  pub banks : GoodBanks (s .params .taps) (s .h) (s .g) (s .k)
   pub periods : GoodPeriods (s .params)
   pub fields : GoodFields (s .params)
 
@@ -103,37 +109,60 @@ field-whole : (place : ℕ) (z : ℤ) (hi : ℕ) → fieldFault place z 0 hi ≡
 field-whole place (pos n) hi e = (n, refl, field-most place n 0 hi e)
 field-whole place (negsuc n) hi e = let z : _≡_ {A = ℕ} 0 1 = cc (kept false (refusal 7 (pos place ∷ [])) e) in absurd (omega arith)
 
-good-fields : (p : Params) → fieldFaults p ≡ [] → leb (p .«agc_shift») 63 ≡ true → GoodFields p
-unfolding fieldFaults
-good-fields p e a = record {
-  bits-least = field-least 0 (p .bits) 2 8 (none-at _ e 0);
-  bits-most = field-most 0 (p .bits) 2 8 (none-at _ e 0);
-  q-shift = field-most 1 (p .«q_shift») 0 15 (none-at _ e 1);
-  agc-init = field-most 3 (p .«agc_init») 0 16777215 (none-at _ e 3);
-  integrator = field-whole 4 (p .«integrator_max») 4194303 (none-at _ e 4);
-  ted-shift = field-most 5 (p .«ted_shift») 0 30 (none-at _ e 5);
-  kp-shift = field-most 6 (p .«kp_shift») 0 40 (none-at _ e 6);
-  ki-shift = field-most 7 (p .«ki_shift») 0 40 (none-at _ e 7);
-  agc-shift = leb-true (p .«agc_shift») 63 a;
+-- ---- the three parts of judging
+
+pub good-lengths : (taps : ℕ) (h g k : List ℤ) → lengthFaults taps h g k ≡ [] → GoodLengths taps h g k
+unfolding lengthFaults
+good-lengths taps h g k e = record {
+  good = good-taps taps (kept _ _ (none-at _ e 0));
+  long-h = long taps h (kept _ _ (none-at _ e 1));
+  long-g = long taps g (kept _ _ (none-at _ e 2));
+  long-k = long taps k (kept _ _ (none-at _ e 3));
 }
 
--- ---- all of them
+pub good-banks : (taps : ℕ) (h g k : List ℤ) → bankFaults taps h g k ≡ [] → GoodBanks taps h g k
+unfolding bankFaults
+good-banks taps h g k e = record {
+  rows-h = none-at _ e 0;
+  rows-g = none-at _ e 1;
+  rows-k = none-at _ e 2;
+  outside-h = kept _ _ (none-at _ e 3);
+  outside-g = kept _ _ (none-at _ e 4);
+}
+
+periods-of : (p : Params) → fieldFaults p ≡ [] → GoodPeriods p
+unfolding fieldFaults
+periods-of p e = good-periods p (kept _ _ (none-at _ e 0))
+
+good-fields : (p : Params) → fieldFaults p ≡ [] → GoodFields p
+unfolding fieldFaults
+good-fields p e = record {
+  bits-least = field-least 0 (p .bits) 2 8 (none-at _ e 1);
+  bits-most = field-most 0 (p .bits) 2 8 (none-at _ e 1);
+  q-shift = field-most 1 (p .«q_shift») 0 15 (none-at _ e 2);
+  agc-init = field-most 3 (p .«agc_init») 0 16777215 (none-at _ e 4);
+  integrator = field-whole 4 (p .«integrator_max») 4194303 (none-at _ e 5);
+  ted-shift = field-most 5 (p .«ted_shift») 0 30 (none-at _ e 6);
+  kp-shift = field-most 6 (p .«kp_shift») 0 40 (none-at _ e 7);
+  ki-shift = field-most 7 (p .«ki_shift») 0 40 (none-at _ e 8);
+  agc-shift = leb-true (p .«agc_shift») 63 (kept _ _ (none-at _ e 9));
+}
+
+-- ---- all of it
 
 pub no-faults : (s : Sheet) → faults s ≡ [] → Accepted s
 unfolding faults
-no-faults s e = record {
-  taps = good-taps (s .params .taps) (kept _ _ (none-at _ e 0));
-  long-h = long (s .params .taps) (s .h) (kept _ _ (none-at _ e 1));
-  long-g = long (s .params .taps) (s .g) (kept _ _ (none-at _ e 2));
-  long-k = long (s .params .taps) (s .k) (kept _ _ (none-at _ e 3));
-  rows-h = none-at _ e 4;
-  rows-g = none-at _ e 5;
-  rows-k = none-at _ e 6;
-  outside-h = kept _ _ (none-at _ e 7);
-  outside-g = kept _ _ (none-at _ e 8);
-  periods = good-periods (s .params) (kept _ _ (none-at _ e 9));
-  fields = good-fields (s .params) (none-at _ e 10) (kept _ _ (none-at _ e 11));
-}
+no-faults s e =
+    let lengths = none-left _ _ e in
+    let rest = none-right (lengthFaults (s .params .taps) (s .h) (s .g) (s .k)) _ e in
+    let banks = none-left _ _ rest in
+    let fields = none-right (bankFaults (s .params .taps) (s .h) (s .g) (s .k)) _ rest in
+    record {
+      lengths = good-lengths (s .params .taps) (s .h) (s .g) (s .k) lengths;
+      banks = good-banks (s .params .taps) (s .h) (s .g) (s .k) banks;
+      periods = periods-of (s .params) fields;
+      fields = good-fields (s .params) fields;
+    }
 
 pub judged-none : (s : Sheet) → judged s ≡ nothing → faults s ≡ []
 unfolding judged

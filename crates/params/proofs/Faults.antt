@@ -10,7 +10,7 @@ use lib.ListN.{getD}
 use lib.IntN.{ℤ}
 use Rattle.params.specs.declared.Params.{Params}
 use Rattle.params.specs.Refusal.{Refusal, nothing}
-use Rattle.params.specs.Judge.{Sheet, unless, firstOf, coefficientFaults, rowFaults, rowsFaults, fieldFaults, faults}
+use Rattle.params.specs.Judge.{Sheet, unless, firstOf, lengthFaults, coefficientFaults, rowFaults, rowsFaults, bankFaults, fieldFaults, faults}
 
 abbrev pub Numbered : List Refusal → Type 0
 Numbered [] = Unit {0}
@@ -40,12 +40,19 @@ kept false r e = absurd (cons-nil e)
     cons-nil : r ∷ [] ≡ [] → ⊥
     cons-nil p = nil≢cons (mathlib.Core.Path.sym p)
 
+-- of two lists, one after the other
+pub none-left : (a b : List Refusal) → a ++ b ≡ [] → a ≡ []
+none-left a b e = append-eq-nil-iff {p = a} {q = b} .0 e .0
+
+pub none-right : (a b : List Refusal) → a ++ b ≡ [] → b ≡ []
+none-right a b e = append-eq-nil-iff {p = a} {q = b} .0 e .1
+
 -- faults that are looked for one after the other: where there is none, there is none of the k-th kind
 pub none-at : (ls : List (List Refusal)) → flatten ls ≡ [] → (k : ℕ) → getD ls k [] ≡ []
 unfolding flatten
 none-at [] e k = refl
-none-at (l ∷ ls) e zero = append-eq-nil-iff {p = l} {q = flatten ls} .0 e .0
-none-at (l ∷ ls) e (suc k) = none-at ls (append-eq-nil-iff {p = l} {q = flatten ls} .0 e .1) k
+none-at (l ∷ ls) e zero = none-left l (flatten ls) e
+none-at (l ∷ ls) e (suc k) = none-at ls (none-right l (flatten ls) e) k
 
 -- ---- the faults of judging
 
@@ -63,10 +70,18 @@ unfolding rowsFaults
 rows-numbered taps bank cs r zero = tt
 rows-numbered taps bank cs r (suc n) = let rest = rows-numbered taps bank cs (suc r) n in search (numbered-append, row-numbered)
 
+lengths-numbered : (taps : ℕ) (h g k : List ℤ) → Numbered (lengthFaults taps h g k)
+unfolding lengthFaults flatten
+lengths-numbered taps h g k = search (numbered-append, numbered-unless, lit<) depth 20
+
+banks-numbered : (taps : ℕ) (h g k : List ℤ) → Numbered (bankFaults taps h g k)
+unfolding bankFaults flatten
+banks-numbered taps h g k = search (numbered-append, numbered-unless, rows-numbered, lit<) depth 20
+
 fields-numbered : (p : Params) → Numbered (fieldFaults p)
 unfolding fieldFaults flatten
-fields-numbered p = search (numbered-append, numbered-unless, lit<) depth 20
+fields-numbered p = search (numbered-append, numbered-unless, lit<) depth 30
 
 pub faults-numbered : (s : Sheet) → Numbered (faults s)
-unfolding faults flatten
-faults-numbered s = search (numbered-append, numbered-unless, rows-numbered, fields-numbered, lit<) depth 30
+unfolding faults
+faults-numbered s = search (numbered-append, lengths-numbered, banks-numbered, fields-numbered)

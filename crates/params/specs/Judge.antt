@@ -40,6 +40,16 @@ goodTaps taps = leb 4 taps && leb taps 64 && eqb (taps % 2) 0
 unfoldable pub goodLength : ℕ → List ℤ → Bool
 goodLength taps bank = eqb (length bank) (64 * taps)
 
+-- 1 and 2, the banks in the order h, g, k.
+unfoldable pub lengthFaults : ℕ → List ℤ → List ℤ → List ℤ → List Refusal
+lengthFaults taps h g k =
+    flatten
+    (unless (goodTaps taps) (refusal 1 [])
+    ∷ unless (goodLength taps h) (refusal 2 [])
+    ∷ unless (goodLength taps g) (refusal 2 [])
+    ∷ unless (goodLength taps k) (refusal 2 [])
+    ∷ [])
+
 -- ---- the rows of a bank
 
 -- Row r of a bank: its part from r × taps on, taps long.
@@ -67,10 +77,6 @@ unfoldable pub rowsFaults : ℕ → ℕ → List ℤ → ℕ → ℕ → List Re
 rowsFaults taps bank cs r zero = []
 rowsFaults taps bank cs r (suc n) = rowFaults bank r (rowOf taps cs r) ++ rowsFaults taps bank cs (suc r) n
 
--- 3 and 4 of a whole bank.
-abbrev pub bankFaults : ℕ → ℕ → List ℤ → List Refusal
-bankFaults taps bank cs = rowsFaults taps bank cs 0 64
-
 -- ---- the timing detector's places
 
 -- Whether tap t is one of the detector's: the eight in the middle of a row, or all of a row that has fewer.
@@ -90,6 +96,17 @@ unfoldable pub rowsOutside : ℕ → List ℤ → ℕ → ℕ → Bool
 rowsOutside taps cs r zero = true
 rowsOutside taps cs r (suc n) = zeroOutside taps 0 (rowOf taps cs r) && rowsOutside taps cs (suc r) n
 
+-- 3 and 4 of the three banks, then 5 of h and of g.
+unfoldable pub bankFaults : ℕ → List ℤ → List ℤ → List ℤ → List Refusal
+bankFaults taps h g k =
+    flatten
+    (rowsFaults taps 0 h 0 64
+    ∷ rowsFaults taps 1 g 0 64
+    ∷ rowsFaults taps 2 k 0 64
+    ∷ unless (rowsOutside taps h 0 64) (refusal 5 (pos 0 ∷ []))
+    ∷ unless (rowsOutside taps g 0 64) (refusal 5 (pos 1 ∷ []))
+    ∷ [])
+
 -- ---- the fields
 
 -- 6: the periods are in order, above one sample and below four.
@@ -102,11 +119,12 @@ goodPeriods p =
 abbrev pub fieldFault : ℕ → ℤ → ℕ → ℕ → List Refusal
 fieldFault place v lo hi = unless (within (pos lo) (pos hi) v) (refusal 7 (pos place ∷ []))
 
--- 7: the fields with their ranges, in the order in which they are looked at.
+-- 6, then 7 field by field in the order in which they are looked at, then 8: no shift that 64 bits cannot make.
 unfoldable pub fieldFaults : Params → List Refusal
 fieldFaults p =
     flatten
-    (fieldFault 0 (pos (p .bits)) 2 8
+    (unless (goodPeriods p) (refusal 6 [])
+    ∷ fieldFault 0 (pos (p .bits)) 2 8
     ∷ fieldFault 1 (pos (p .«q_shift»)) 0 15
     ∷ fieldFault 2 (pos (p .«block_log2»)) 8 15
     ∷ fieldFault 3 (pos (p .«agc_init»)) 0 16777215
@@ -114,29 +132,16 @@ fieldFaults p =
     ∷ fieldFault 5 (pos (p .«ted_shift»)) 0 30
     ∷ fieldFault 6 (pos (p .«kp_shift»)) 0 40
     ∷ fieldFault 7 (pos (p .«ki_shift»)) 0 40
+    ∷ unless (leb (p .«agc_shift») 63) (refusal 8 [])
     ∷ [])
 
 -- ---- all of it
 
--- The faults of a sheet with its banks, 1 to 8, in order; 3 and 4 go row by row and bank by bank.
+-- The faults of a sheet with its banks, 1 to 8, in order.
 unfoldable pub faults : Sheet → List Refusal
 faults s =
-    let p : Params = s .params in
-    let taps : ℕ = p .taps in
-    flatten
-    (unless (goodTaps taps) (refusal 1 [])
-    ∷ unless (goodLength taps (s .h)) (refusal 2 [])
-    ∷ unless (goodLength taps (s .g)) (refusal 2 [])
-    ∷ unless (goodLength taps (s .k)) (refusal 2 [])
-    ∷ bankFaults taps 0 (s .h)
-    ∷ bankFaults taps 1 (s .g)
-    ∷ bankFaults taps 2 (s .k)
-    ∷ unless (rowsOutside taps (s .h) 0 64) (refusal 5 (pos 0 ∷ []))
-    ∷ unless (rowsOutside taps (s .g) 0 64) (refusal 5 (pos 1 ∷ []))
-    ∷ unless (goodPeriods p) (refusal 6 [])
-    ∷ fieldFaults p
-    ∷ unless (leb (p .«agc_shift») 63) (refusal 8 [])
-    ∷ [])
+    let taps : ℕ = s .params .taps in
+    lengthFaults taps (s .h) (s .g) (s .k) ++ (bankFaults taps (s .h) (s .g) (s .k) ++ fieldFaults (s .params))
 
 -- What judging answers: the first fault, or nothing.
 unfoldable pub judged : Sheet → Refusal
