@@ -8,8 +8,8 @@ use native.Mathlib.Omega.{arith}
 use lib.Dec.{T}
 use lib.Pow.{pow-pos}
 use lib.IntN.{ℤ, pos, negsuc, negℤ, natAbs, subℕ, _+ℤ_, _-ℤ_}
-use lib.Signed.{nonNeg, ltZ, leZ, shrZ}
-use borrow.Author.Tests.{ltb-true, ltb-false, leb-true, lt-ltb, le-ltb, le-leb}
+use lib.Signed.{mag, nonNeg, ltZ, leZ, shrZ}
+use borrow.Author.Tests.{ltb-true, ltb-false, leb-true, lt-ltb, le-ltb, le-leb, lt-leb}
 use mir.Syntax.{Width}
 use mir.Val.{SFits, Fits, hbits, bits}
 use Rattle.arith.specs.Arith.{clampZ}
@@ -94,6 +94,17 @@ pn-le (pos a) (negsuc b) h = let z : ⊥ = omega arith in absurd z
 pn-le (negsuc a) (pos b) h = refl
 pn-le (negsuc a) (negsuc b) h = le-leb b a (omega arith)
 
+pub pn-gt : (a b : ℤ) → P b + N a < P a + N b → leZ a b ≡ false
+pn-gt (pos a) (pos b) h = lt-leb a b (omega arith)
+pn-gt (pos a) (negsuc b) h = refl
+pn-gt (negsuc a) (pos b) h = let z : ⊥ = omega arith in absurd z
+pn-gt (negsuc a) (negsuc b) h = lt-leb b a (omega arith)
+
+-- the one test is the other's negation
+pub not-less : (a b : ℤ) (t : Bool) → ltZ a b ≡ t → leZ b a ≡ not t
+not-less a b true e = pn-gt b a (lt-pn a b e)
+not-less a b false e = pn-le b a (ge-pn a b e)
+
 -- ---- equations
 
 pub eq-pn : (a b : ℤ) → P a + N b ≡ P b + N a → a ≡ b
@@ -101,6 +112,22 @@ eq-pn (pos a) (pos b) e = ap pos (omega arith)
 eq-pn (pos a) (negsuc b) e = let z : ⊥ = omega arith in absurd z
 eq-pn (negsuc a) (pos b) e = let z : ⊥ = omega arith in absurd z
 eq-pn (negsuc a) (negsuc b) e = ap negsuc (omega arith)
+
+-- -1 - z takes -(a + 1) to a, and a to -(a + 1)
+pub flip-down : (a : ℕ) → negsuc 0 -ℤ negsuc a ≡ pos a
+flip-down a = eq-pn (negsuc 0 -ℤ negsuc a) (pos a) (omega (arith, minus-pn (negsuc 0) (negsuc a)))
+
+pub flip-up : (a : ℕ) → negsuc 0 -ℤ pos a ≡ negsuc a
+flip-up a = eq-pn (negsuc 0 -ℤ pos a) (negsuc a) (omega (arith, minus-pn (negsuc 0) (pos a)))
+
+-- the sign, as a test tells it
+pub below-zero : (z : ℤ) → ltZ z (pos 0) ≡ true → z ≡ negsuc (mag z)
+below-zero (pos a) t = absurd (omega (arith, ltb-true a 0 t))
+below-zero (negsuc a) t = refl
+
+pub not-below : (z : ℤ) → ltZ z (pos 0) ≡ false → z ≡ pos (mag z)
+not-below (pos a) t = refl
+not-below (negsuc a) t = absurd (subst (λ (b : Bool). T (not b)) (sym t) tt)
 
 -- ---- a clamp lies between its ends, if they are in order
 

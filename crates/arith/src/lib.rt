@@ -32,6 +32,19 @@ pub fn shift_right(v: i64, s: u32) -> i64
     v >> s
 }
 
+// v / m, rounded down. By 0 it leaves what a shift past the last place leaves: the sign.
+pub fn divide_down(v: i64, m: u32) -> i64
+    ensures { λ r. ⌜ r ≡ shrZ v m ⌝ }
+{
+    if m == 0 {
+        return v >> 63;
+    }
+    if v < 0 {
+        return -1 - (-1 - v) / (m as i64);
+    }
+    v / (m as i64)
+}
+
 // The whole product: 32 bits times 32 bits fit 64.
 pub fn product(a: i32, b: i32) -> i64
     ensures { λ r. ⌜ r ≡ a *ℤ b ⌝ }

@@ -1,7 +1,7 @@
 -- Lists of faults. Every fault has a number other than 0, so an answer of nothing says that there is no fault at all,
 -- and of faults that are looked for one after the other none then has any.
 use Prim.Native.Nat.{ℕ, zero, suc, _<_}
-use mathlib.Core.Path.{_≡_, refl, ap}
+use mathlib.Core.Path.{_≡_, refl, sym, ap, _∙_, subst}
 use mathlib.Core.Bool.{Bool, true, false}
 use mathlib.Core.List.{List, [], _∷_, _++_, flatten, append-eq-nil-iff, nil≢cons}
 use native.Mathlib.Omega.{arith}
@@ -9,7 +9,11 @@ use lib.Dec.{lit<}
 use lib.ListN.{getD}
 use lib.IntN.{ℤ}
 use Rattle.params.specs.declared.Params.{Params}
-use Rattle.params.specs.Refusal.{Refusal, nothing}
+use Rattle.params.specs.declared.ParamError.{ParamError}
+use Rattle.params.specs.declared.ParamError.the-variants.{Taps, BankLength, Coefficient, CoefficientSum, DetectorTaps, PeriodBounds, Range, AgcShift}
+use Rattle.params.specs.declared.Verdict.{Verdict}
+use Rattle.params.specs.declared.Verdict.the-variants.{Refused}
+use Rattle.params.specs.Refusal.{Refusal, nothing, errorRefusal, verdictRefusal}
 use Rattle.params.specs.Judge.{Sheet, unless, firstOf, lengthFaults, coefficientFaults, rowFaults, rowsFaults, bankFaults, fieldFaults, faults}
 
 abbrev pub Numbered : List Refusal → Type 0
@@ -38,7 +42,7 @@ kept true r e = refl
 kept false r e = absurd (cons-nil e)
   where
     cons-nil : r ∷ [] ≡ [] → ⊥
-    cons-nil p = nil≢cons (mathlib.Core.Path.sym p)
+    cons-nil p = nil≢cons (sym p)
 
 -- of two lists, one after the other
 pub none-left : (a b : List Refusal) → a ++ b ≡ [] → a ≡ []
@@ -54,6 +58,52 @@ none-at [] e k = refl
 none-at (l ∷ ls) e zero = none-left l (flatten ls) e
 none-at (l ∷ ls) e (suc k) = none-at ls (none-right l (flatten ls) e) k
 
+-- ---- an answer that was found by looking at one kind after the other
+
+pub first-append : (a b : List Refusal) → 0 < firstOf a .number → firstOf (a ++ b) ≡ firstOf a
+first-append [] b h = absurd (omega arith)
+first-append (r ∷ a) b h = refl
+
+pub record First (ls : List (List Refusal)) (r : Refusal) : Type 0 where
+  pub is : r ≡ firstOf (flatten ls)
+
+-- there is none of the first kind, so it is the first of the others
+pub skip : {r : Refusal} {l : List Refusal} {ls : List (List Refusal)} → l ≡ [] → First ls r → First (l ∷ ls) r
+unfolding flatten
+skip e f = record { is = rw e (f .is) }
+
+-- it is the first of the first kind
+pub stop : {r : Refusal} {l : List Refusal} {ls : List (List Refusal)} → 0 < r .number → r ≡ firstOf l → First (l ∷ ls) r
+unfolding flatten
+stop {r} {l} {ls} h e = record { is = e ∙ sym (first-append l (flatten ls) (subst (λ (q : Refusal). 0 < q .number) e h)) }
+
+-- there is none of any kind
+pub none : First [] nothing
+unfolding flatten
+none = record { is = refl }
+
+-- one rule, kept or broken
+pub keeps : {b : Bool} (r : Refusal) {q : Refusal} {ls : List (List Refusal)} → b ≡ true → First ls q → First (unless b r ∷ ls) q
+keeps {b} r e f = skip (ap (λ (x : Bool). unless x r) e) f
+
+pub breaks : {b : Bool} {r : Refusal} {ls : List (List Refusal)} → 0 < r .number → b ≡ false → First (unless b r ∷ ls) r
+breaks {b} {r} h e = stop h (sym (ap (λ (x : Bool). firstOf (unless x r)) e))
+
+-- a verdict's number is not 0 where it refuses
+pub error-numbered : (e : ParamError) → 0 < errorRefusal e .number
+error-numbered Taps = lit< tt
+error-numbered BankLength = lit< tt
+error-numbered (Coefficient b p v) = lit< tt
+error-numbered (CoefficientSum b p v) = lit< tt
+error-numbered (DetectorTaps b) = lit< tt
+error-numbered PeriodBounds = lit< tt
+error-numbered (Range f) = lit< tt
+error-numbered AgcShift = lit< tt
+
+-- what a verdict that refuses told of a list of faults, its error tells
+pub refused : {v : Verdict} {r : Refusal} {e : ParamError} → verdictRefusal v ≡ r → v ≡ Refused e → errorRefusal e ≡ r
+refused told is = sym (ap verdictRefusal is) ∙ told
+
 -- ---- the faults of judging
 
 coefficients-numbered : (bank r : ℕ) (row : List ℤ) → Numbered (coefficientFaults bank r row)
@@ -65,20 +115,20 @@ row-numbered : (bank r : ℕ) (row : List ℤ) → Numbered (rowFaults bank r ro
 unfolding rowFaults
 row-numbered bank r row = search (numbered-append, numbered-unless, coefficients-numbered, lit<)
 
-rows-numbered : (taps bank : ℕ) (cs : List ℤ) (r n : ℕ) → Numbered (rowsFaults taps bank cs r n)
+pub rows-numbered : (taps bank : ℕ) (cs : List ℤ) (r n : ℕ) → Numbered (rowsFaults taps bank cs r n)
 unfolding rowsFaults
 rows-numbered taps bank cs r zero = tt
 rows-numbered taps bank cs r (suc n) = let rest = rows-numbered taps bank cs (suc r) n in search (numbered-append, row-numbered)
 
-lengths-numbered : (taps : ℕ) (h g k : List ℤ) → Numbered (lengthFaults taps h g k)
+pub lengths-numbered : (taps : ℕ) (h g k : List ℤ) → Numbered (lengthFaults taps h g k)
 unfolding lengthFaults flatten
 lengths-numbered taps h g k = search (numbered-append, numbered-unless, lit<) depth 20
 
-banks-numbered : (taps : ℕ) (h g k : List ℤ) → Numbered (bankFaults taps h g k)
+pub banks-numbered : (taps : ℕ) (h g k : List ℤ) → Numbered (bankFaults taps h g k)
 unfolding bankFaults flatten
 banks-numbered taps h g k = search (numbered-append, numbered-unless, rows-numbered, lit<) depth 20
 
-fields-numbered : (p : Params) → Numbered (fieldFaults p)
+pub fields-numbered : (p : Params) → Numbered (fieldFaults p)
 unfolding fieldFaults flatten
 fields-numbered p = search (numbered-append, numbered-unless, lit<) depth 30
 

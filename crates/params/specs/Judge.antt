@@ -17,6 +17,9 @@ pub record Sheet : Type 0 where
   pub g : List ℤ
   pub k : List ℤ
 
+abbrev pub sheetOf : Params → List ℤ → List ℤ → List ℤ → Sheet
+sheetOf p h g k = record { params = p; h = h; g = g; k = k }
+
 -- A fault where a rule is broken, and none where it is kept.
 abbrev pub unless : Bool → Refusal → List Refusal
 unless kept r = cond kept [] (r ∷ [])
