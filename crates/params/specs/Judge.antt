@@ -123,10 +123,9 @@ abbrev pub fieldFault : ℕ → ℤ → ℕ → ℕ → List Refusal
 fieldFault place v lo hi = unless (within (pos lo) (pos hi) v) (refusal 7 (pos place ∷ []))
 
 -- 6, then 7 field by field in the order in which they are looked at, then 8: no shift that 64 bits cannot make.
-unfoldable pub fieldFaults : Params → List Refusal
-fieldFaults p =
-    flatten
-    (unless (goodPeriods p) (refusal 6 [])
+abbrev pub fieldTests : Params → List (List Refusal)
+fieldTests p =
+    unless (goodPeriods p) (refusal 6 [])
     ∷ fieldFault 0 (pos (p .bits)) 2 8
     ∷ fieldFault 1 (pos (p .«q_shift»)) 0 15
     ∷ fieldFault 2 (pos (p .«block_log2»)) 8 15
@@ -136,7 +135,10 @@ fieldFaults p =
     ∷ fieldFault 6 (pos (p .«kp_shift»)) 0 40
     ∷ fieldFault 7 (pos (p .«ki_shift»)) 0 40
     ∷ unless (leb (p .«agc_shift») 63) (refusal 8 [])
-    ∷ [])
+    ∷ []
+
+unfoldable pub fieldFaults : Params → List Refusal
+fieldFaults p = flatten (fieldTests p)
 
 -- ---- all of it
 
