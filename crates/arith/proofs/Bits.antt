@@ -4,11 +4,11 @@ use Prim.Native.Nat.{ℕ, _^_, _≤_, _<_}
 use mathlib.Core.Path.{_≡_}
 use native.Mathlib.Omega.{arith}
 use lib.Dec.{T, leb}
-use lib.IntN.{ℤ, natAbs}
+use lib.IntN.{ℤ, pos, natAbs}
 use lib.Signed.{mag, shrZ, mag-shr}
-use mir.Syntax.{Width}
-use mir.Val.{SFits, hbits, toZ, ofZ}
-use mir.Facts.{sfits-widen, toZ-ofZ}
+use mir.Syntax.{Width, w32, w64}
+use mir.Val.{Fits, SFits, hbits, toZ, ofZ}
+use mir.Facts.{sfits-widen, toZ-ofZ, toZ-pos}
 use Rattle.arith.proofs.Magnitude.{mag-abs, abs-mag}
 
 -- a number that is small enough fits, and one that fits is small
@@ -35,3 +35,7 @@ widens w′ t h = simp (toZ-ofZ h) (sfits-widen t h)
 
 pub widened : {w : Width} (w′ : Width) {z : ℤ} → T (leb (hbits w) (hbits w′)) → SFits w z → toZ w′ (ofZ w′ (toZ w (ofZ w z))) ≡ z
 widened w′ t h = simp (toZ-ofZ h, toZ-ofZ (sfits-widen {w′ = w′} t h))
+
+-- an unsigned number as a signed one of twice the width, as in `x as i64` of a `u32`: it is the same
+pub whole : (n : ℕ) → Fits w32 n → toZ w64 n ≡ pos n
+whole n f = toZ-pos w64 (omega (arith, f .fits))

@@ -32,17 +32,17 @@ pub fn shift_right(v: i64, s: u32) -> i64
     v >> s
 }
 
-// v / m, rounded down. By 0 it leaves what a shift past the last place leaves: the sign.
-pub fn divide_down(v: i64, m: u32) -> i64
-    ensures { λ r. ⌜ r ≡ shrZ v m ⌝ }
+// n / m, rounded down. By 0 it leaves what a shift past the last place leaves: the sign.
+pub fn divide_down(n: i64, m: u32) -> i64
+    ensures { λ r. ⌜ r ≡ shrZ n m ⌝ }
 {
     if m == 0 {
-        return v >> 63;
+        return n >> 63;
     }
-    if v < 0 {
-        return -1 - (-1 - v) / (m as i64);
+    if n < 0 {
+        return -1 - (-1 - n) / (m as i64);
     }
-    v / (m as i64)
+    n / (m as i64)
 }
 
 // The whole product: 32 bits times 32 bits fit 64.

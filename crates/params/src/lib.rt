@@ -7,6 +7,7 @@ ghost use lib.Dec.{leb};
 ghost use lib.IntN.{pos};
 ghost use Rattle.params.specs.Refusal.{verdictRefusal};
 ghost use Rattle.params.specs.Judge.{sheetOf, firstOf, within, lengthFaults, goodPeriods, fieldFaults, judged};
+ghost use Rattle.params.specs.Offset.{offsetParts, partsOf, offsetOf};
 
 // The run-time parameters (document 01: the sheet). The banks h, g and k are lent beside it, each 64 rows of `taps` numbers, row by row.
 pub struct Params {
@@ -128,6 +129,39 @@ impl Params {
             return Verdict::Refused(e);
         }
         self.check_fields()
+    }
+
+    // How far a period lies from the nominal one (document 01: the offset).
+    pub fn offset(self, h: &[i32], g: &[i32], k: &[i32], period: u32) -> Offset
+        ensures { λ r. ⌜ offsetParts r ≡ offsetOf (sheetOf self (now (h .entry)) (now (g .entry)) (now (k .entry))) period ⌝ }
+    {
+        let verdict = self.validate(h, g, k);
+        if let Verdict::Refused(e) = verdict {
+            return Offset {
+                verdict: OffsetVerdict::Params(e),
+                parts: 0,
+            };
+        }
+        if !is_within(period, self.period_min, self.period_max) {
+            return Offset {
+                verdict: OffsetVerdict::Period,
+                parts: 0,
+            };
+        }
+        Offset {
+            verdict: OffsetVerdict::Accepted,
+            parts: self.parts_of(period),
+        }
+    }
+
+    // The division rounds down: a period just below the nominal one is a part short of it, never level with it.
+    fn parts_of(self, period: u32) -> i64
+        ensures { λ r. ⌜ r ≡ partsOf self period ⌝ }
+    {
+        arith::divide_down(
+            (period as i64 - self.period_nominal as i64) * 1_000_000_000,
+            self.period_nominal,
+        )
     }
 
     fn has_good_periods(self) -> bool

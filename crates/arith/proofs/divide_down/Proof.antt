@@ -14,7 +14,7 @@ use mir.Facts.{toZ-ofZ, toZ-pos}
 use borrow.Author.Needs.{needs, sfits-of}
 use borrow.Author.Tests.{ltb-true}
 use Rattle.arith.proofs.Order.{flip-down, flip-up, below-zero, not-below}
-use Rattle.arith.proofs.Bits.{shr-fits}
+use Rattle.arith.proofs.Bits.{shr-fits, whole}
 use Rattle.arith.proofs.Rounding.{shr-zero}
 use Rattle.arith.proofs.divide_down.Statement.{statement}
 use Rattle.arith.proofs.divide_down.Tie as tie
@@ -23,19 +23,16 @@ use Rattle.arith.proofs.divide_down.Tie as tie
 
 returns : tie.Need-returns
 returns c =
-    let v = c .before .fits .v in
-    simp (toZ-ofZ v, toZ-ofZ (shr-fits (2 ^ 63) v), c .if1 .taken) (shr-zero (c .before .args .v) (v .sfits))
+    let n = c .before .fits .n in
+    simp (toZ-ofZ n, toZ-ofZ (shr-fits (2 ^ 63) n), c .if1 .taken) (shr-zero (c .before .args .n) (n .sfits))
 
 -- ---- below zero
 
--- what the bits of v, of -1 - v, and of the divisor are read as
-v-is : (c : tie.Then2) → toZ w64 (ofZ w64 (c .before .before .args .v)) ≡ negsuc (mag (c .before .before .args .v))
-v-is c =
-    let f = toZ-ofZ (c .before .before .fits .v) in
-    f ∙ below-zero (c .before .before .args .v) (simp f at (c .if2 .taken))
-
-m-is : (m : ℕ) → Fits w32 m → toZ w64 m ≡ pos m
-m-is m f = toZ-pos w64 (omega (arith, f .fits))
+-- what the bits of n, of -1 - n, and of the divisor are read as
+n-is : (c : tie.Then2) → toZ w64 (ofZ w64 (c .before .before .args .n)) ≡ negsuc (mag (c .before .before .args .n))
+n-is c =
+    let f = toZ-ofZ (c .before .before .fits .n) in
+    f ∙ below-zero (c .before .before .args .n) (simp f at (c .if2 .taken))
 
 fits-pos : (n : ℕ) → n < 2 ^ 63 → SFits w64 (pos n)
 fits-pos n h = sfits-of h
@@ -43,62 +40,62 @@ fits-pos n h = sfits-of h
 fits-neg : (n : ℕ) → n < 2 ^ 63 → SFits w64 (negsuc n)
 fits-neg n h = sfits-of h
 
-small : (c : tie.Then2) → mag (c .before .before .args .v) < 2 ^ 63
-small c = c .before .before .fits .v .sfits
+small : (c : tie.Then2) → mag (c .before .before .args .n) < 2 ^ 63
+small c = c .before .before .fits .n .sfits
 
 quotient-small : (a m : ℕ) → a < 2 ^ 63 → a / m < 2 ^ 63
 quotient-small a m h = omega (arith, div-le-self a m)
 
 sub-result : tie.Need-sub-result
-sub-result c = simp (v-is c, flip-down) (fits-pos (mag (c .before .before .args .v)) (small c))
+sub-result c = simp (n-is c, flip-down) (fits-pos (mag (c .before .before .args .n)) (small c))
 
 cast-result : tie.Need-cast-result
 cast-result c = search needs
 
 div-result : tie.Need-div-result
 div-result c =
-    let a = mag (c .before .before .args .v) in
+    let a = mag (c .before .before .args .n) in
     let m = c .before .before .args .m in
-    simp (v-is c, flip-down, toZ-ofZ (fits-pos a (small c)), m-is m (c .before .before .fits .m))
+    simp (n-is c, flip-down, toZ-ofZ (fits-pos a (small c)), whole m (c .before .before .fits .m))
     (omega arith, fits-pos (a / m) (quotient-small a m (small c)))
 
 sub-result-2 : tie.Need-sub-result-2
 sub-result-2 c =
-    let a = mag (c .before .before .args .v) in
+    let a = mag (c .before .before .args .n) in
     let m = c .before .before .args .m in
     let q = quotient-small a m (small c) in
-    simp (v-is c, flip-down, toZ-ofZ (fits-pos a (small c)), m-is m (c .before .before .fits .m), toZ-ofZ (fits-pos (a / m) q), flip-up) (fits-neg (a / m) q)
+    simp (n-is c, flip-down, toZ-ofZ (fits-pos a (small c)), whole m (c .before .before .fits .m), toZ-ofZ (fits-pos (a / m) q), flip-up) (fits-neg (a / m) q)
 
 returns-2 : tie.Need-returns-2
 returns-2 c =
-    let v = c .before .before .args .v in
-    let a = mag v in
+    let n = c .before .before .args .n in
+    let a = mag n in
     let m = c .before .before .args .m in
     let q = quotient-small a m (small c) in
-    simp (v-is c, flip-down, toZ-ofZ (fits-pos a (small c)), m-is m (c .before .before .fits .m), toZ-ofZ (fits-pos (a / m) q), flip-up, toZ-ofZ (fits-neg (a / m) q))
-    (ap (λ (z : ℤ). shrZ z m) (sym (sym (toZ-ofZ (c .before .before .fits .v)) ∙ v-is c)))
+    simp (n-is c, flip-down, toZ-ofZ (fits-pos a (small c)), whole m (c .before .before .fits .m), toZ-ofZ (fits-pos (a / m) q), flip-up, toZ-ofZ (fits-neg (a / m) q))
+    (ap (λ (z : ℤ). shrZ z m) (sym (sym (toZ-ofZ (c .before .before .fits .n)) ∙ n-is c)))
 
 -- ---- not below zero
 
 cast-result-2 : tie.Need-cast-result-2
 cast-result-2 c = search needs
 
-w-is : (c : tie.Else2) → toZ w64 (ofZ w64 (c .before .before .args .v)) ≡ pos (mag (c .before .before .args .v))
+w-is : (c : tie.Else2) → toZ w64 (ofZ w64 (c .before .before .args .n)) ≡ pos (mag (c .before .before .args .n))
 w-is c =
-    let f = toZ-ofZ (c .before .before .fits .v) in
-    f ∙ not-below (c .before .before .args .v) (simp f at (c .if2 .left))
+    let f = toZ-ofZ (c .before .before .fits .n) in
+    f ∙ not-below (c .before .before .args .n) (simp f at (c .if2 .left))
 
-quotient : (c : tie.Else2) → SFits w64 (pos (mag (c .before .before .args .v) / c .before .before .args .m))
-quotient c = fits-pos _ (quotient-small (mag (c .before .before .args .v)) (c .before .before .args .m) (c .before .before .fits .v .sfits))
+quotient : (c : tie.Else2) → SFits w64 (pos (mag (c .before .before .args .n) / c .before .before .args .m))
+quotient c = fits-pos _ (quotient-small (mag (c .before .before .args .n)) (c .before .before .args .m) (c .before .before .fits .n .sfits))
 
 div-result-2 : tie.Need-div-result-2
-div-result-2 c = simp (w-is c, m-is (c .before .before .args .m) (c .before .before .fits .m)) (omega arith, quotient c)
+div-result-2 c = simp (w-is c, whole (c .before .before .args .m) (c .before .before .fits .m)) (omega arith, quotient c)
 
 returns-3 : tie.Need-returns-3
 returns-3 c =
     let m = c .before .before .args .m in
-    simp (w-is c, m-is m (c .before .before .fits .m), toZ-ofZ (quotient c))
-    (ap (λ (z : ℤ). shrZ z m) (sym (sym (toZ-ofZ (c .before .before .fits .v)) ∙ w-is c)))
+    simp (w-is c, whole m (c .before .before .fits .m), toZ-ofZ (quotient c))
+    (ap (λ (z : ℤ). shrZ z m) (sym (sym (toZ-ofZ (c .before .before .fits .n)) ∙ w-is c)))
 
 pub divide-down-spec : {M : Type 1} → statement M
 divide-down-spec =
