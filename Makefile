@@ -9,11 +9,12 @@ ISDB_RS ?= ../shared/docs/src
 .PHONY: run test oracle clean kit
 
 run: kit
-	@echo "Proving and linking replay_leaves and what it stands on (half a minute from nothing) .."
+	@echo "Proving and linking the replay programs and what they stand on (a minute from nothing) .."
 	@mkdir -p target
-	@$(RT) check replay_leaves >target/run.out 2>&1 || { tail -n 20 target/run.out; exit 1; }
-	@echo "Replaying the answers of isdb-rs that are stored in crates/replay_leaves/stdin:"
+	@$(RT) check replay_leaves replay_calls >target/run.out 2>&1 || { tail -n 20 target/run.out; exit 1; }
+	@echo "Replaying the answers of isdb-rs that are stored in crates/replay_*/stdin:"
 	@target/bin/replay_leaves <crates/replay_leaves/stdin
+	@target/bin/replay_calls <crates/replay_calls/stdin
 
 test: kit
 	@$(RT) fmt --check

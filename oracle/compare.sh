@@ -26,7 +26,7 @@ for profile in release checked; do
     (cd oracle && cargo build --offline --quiet --profile $profile)
 done
 echo "oracle: proving and linking the replay programs .."
-$RT check replay_leaves >"$work/check.out" 2>&1 || { tail -n 20 "$work/check.out"; exit 1; }
+$RT check replay_leaves replay_calls >"$work/check.out" 2>&1 || { tail -n 20 "$work/check.out"; exit 1; }
 rust=oracle/target/release/oracle
 checked=oracle/target/checked/oracle
 
@@ -44,6 +44,12 @@ while [ $seed -le 3 ]; do
     line=$($checked leaves $seed $((1000000 * SCALE)) | target/bin/replay_leaves)
     count "leaves, seed $seed" "${line%% *}" "$(echo "$line" | sed 's/.*compared, \([0-9]*\) differ.*/\1/')"
     seed=$((seed + 1))
+done
+
+# Judging and the offset: sheets that were designed, at the ends of every range, and with faults next to every boundary.
+for kind in designed extreme refused mixed; do
+    line=$($checked calls $kind 1 $((6000 * SCALE)) | target/bin/replay_calls)
+    count "judging and offsets, $kind sheets" "${line%% *}" "$(echo "$line" | sed 's/.*compared, \([0-9]*\) differ.*/\1/')"
 done
 
 # The Rust's two builds against each other: where they differ an overflow wrapped, and its answers are no measure.

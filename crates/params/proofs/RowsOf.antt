@@ -2,13 +2,12 @@
 use Prim.Native.Nat.{ℕ, zero, suc, _+_, _-_, _*_, _≤_, _<_}
 use mathlib.Core.Path.{_≡_, refl, sym, ap, _∙_}
 use mathlib.Core.Bool.{Bool, true, false, _&&_}
-use mathlib.Core.List.{List, [], _∷_, _++_, append-assoc, append-nil}
+use mathlib.Core.List.{List, [], _++_, append-assoc}
 use native.Mathlib.Nat.{suc-mul, mul-le-mul-right}
 use native.Mathlib.Omega.{arith}
 use lib.ListN.{length, take, drop, length-drop}
 use lib.Seq.{length-take-le}
 use lib.IntN.{ℤ}
-use Rattle.params.specs.Refusal.{Refusal}
 use Rattle.params.specs.Judge.{firstOf, rowOf, rowFaults, rowsFaults, zeroOutside, rowsOutside}
 use Rattle.params.proofs.Faults.{first-append}
 use Rattle.params.proofs.Rows.{and-assoc}

@@ -133,7 +133,7 @@ fn check_rows(bank: u8, cs: &[i32], taps: usize, of_detector: bool) -> Rows
 }
 
 // 3 and 4 of the three banks, then 5 of h and of g.
-pub fn check_banks(h: &[i32], g: &[i32], k: &[i32], taps: usize) -> Verdict
+pub(crate) fn check_banks(h: &[i32], g: &[i32], k: &[i32], taps: usize) -> Verdict
     requires { ⌜ (taps ≤ 64) × ((length (now h) ≡ 64 * taps) × ((length (now g) ≡ 64 * taps) × (length (now k) ≡ 64 * taps))) ⌝ }
     ensures { λ r. ⌜ verdictRefusal r ≡ firstOf (bankFaults taps (now (h .entry)) (now (g .entry)) (now (k .entry))) ⌝ }
 {

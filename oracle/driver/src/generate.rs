@@ -15,20 +15,27 @@ const ROW: i64 = (1 << 17) - 1;
 pub fn sheets(kind: &str, seed: u64, count: u64, output: &mut impl Write) -> io::Result<()> {
     let mut r = Random::new(seed);
     for _ in 0..count {
-        let kind = if kind == "mixed" {
-            r.pick(&["designed", "extreme", "refused"])
-        } else {
-            kind
-        };
-        match kind {
-            "designed" => designed(&mut r).0,
-            "extreme" => extreme(&mut r),
-            "refused" => refused(&mut r),
-            _ => return Err(usage(&format!("{kind} is no kind of sheet"))),
-        }
-        .write(output)?;
+        sheet(kind, &mut r)?.write(output)?;
     }
     Ok(())
+}
+
+pub fn sheet(kind: &str, r: &mut Random) -> io::Result<Sheet> {
+    let kind = if kind == "mixed" {
+        r.pick(&["designed", "extreme", "refused"])
+    } else {
+        kind
+    };
+    match kind {
+        "designed" => Ok(designed(r).0),
+        "extreme" => Ok(extreme(r)),
+        "small" => {
+            let taps = r.pick(&[4, 6, 8, 10]);
+            Ok(extreme_of(r, taps))
+        }
+        "refused" => Ok(refused(r)),
+        _ => Err(usage(&format!("{kind} is no kind of sheet"))),
+    }
 }
 
 /// A sheet, its banks and pairs, as the symbol program reads them.
@@ -161,6 +168,10 @@ fn extreme(r: &mut Random) -> Sheet {
     } else {
         taps
     };
+    extreme_of(r, taps)
+}
+
+fn extreme_of(r: &mut Random, taps: u32) -> Sheet {
     let (low, high) = ((1i64 << 24) + 1, (1i64 << 26) - 1);
     let mut period = [ends(r, low, high), ends(r, low, high), ends(r, low, high)];
     period.sort_unstable();
@@ -237,14 +248,22 @@ fn extreme_row(r: &mut Random, taps: usize, detector: bool) -> Vec<i32> {
     row
 }
 
-/// A sheet with one fault or several, each next to the boundary that it breaks. A few are accepted after all: the
-/// boundary itself is among the values.
+/// A sheet with one fault or several.
 fn refused(r: &mut Random) -> Sheet {
-    let mut sheet = if r.one_in(8) {
+    let sheet = if r.one_in(8) {
         designed(r).0
     } else {
         extreme(r)
     };
+    spoiled(r, sheet)
+}
+
+/// The sheet with one fault or several, each next to the boundary that it breaks. A few are accepted after all: the
+/// boundary itself is among the values.
+pub fn spoiled(r: &mut Random, mut sheet: Sheet) -> Sheet {
+    if sheet.judge().first().is_some_and(|number| *number <= 2) {
+        return sheet;
+    }
     if r.one_in(12) {
         sheet.taps = r.pick(&[0, 1, 2, 3, 5, 7, 63, 65, 66]);
         let taps = sheet.taps as usize;
@@ -254,7 +273,21 @@ fn refused(r: &mut Random) -> Sheet {
     for _ in 0..1 + r.below(3) {
         fault(r, &mut sheet);
     }
+    if r.one_in(12) {
+        wrong_length(r, &mut sheet);
+    }
     sheet
+}
+
+/// A bank of 63 or 65 rows, or with one number too many. (One too few is a short last row for isdb-rs, which tells it
+/// after the faults of the rows before it.)
+fn wrong_length(r: &mut Random, sheet: &mut Sheet) {
+    let taps = sheet.taps as usize;
+    let bank = &mut sheet.banks[r.below(3) as usize];
+    bank.resize(
+        r.pick(&[(PHASES - 1) * taps, (PHASES + 1) * taps, PHASES * taps + 1]),
+        0,
+    );
 }
 
 fn fault(r: &mut Random, sheet: &mut Sheet) {
@@ -291,7 +324,7 @@ fn fault(r: &mut Random, sheet: &mut Sheet) {
                 one,
                 one + 1,
                 sheet.period_nominal,
-                sheet.period_nominal + 1,
+                sheet.period_nominal.wrapping_add(1),
             ])
         }
         4 => {
@@ -301,15 +334,15 @@ fn fault(r: &mut Random, sheet: &mut Sheet) {
                 four + 1,
                 u32::MAX,
                 sheet.period_nominal,
-                sheet.period_nominal - 1,
+                sheet.period_nominal.wrapping_sub(1),
             ])
         }
         5 => {
             sheet.period_nominal = r.pick(&[
                 sheet.period_min,
-                sheet.period_min - 1,
+                sheet.period_min.wrapping_sub(1),
                 sheet.period_max,
-                sheet.period_max + 1,
+                sheet.period_max.wrapping_add(1),
             ])
         }
         6 => sheet.agc_shift = r.pick(&[63, 64, 255]),

@@ -1,10 +1,12 @@
 //! Asks the Rust front end of isdb-rs, text in and text out. README.md beside this folder has the formats.
 
+mod calls;
 mod design;
 mod generate;
 mod leaves;
 mod program;
 mod random;
+mod reading;
 mod sheet;
 mod state;
 
@@ -23,10 +25,11 @@ oracle: asks the Rust front end of isdb-rs
   oracle design                       standard input: designs, a line each; the registers or the refusal of each
   oracle input                        standard input: f32 by their bits in hexadecimal; the sample of each
   oracle sheets KIND SEED COUNT       sheets for `validate`
+  oracle calls KIND SEED COUNT        sheets with what judging them and offsets of periods answer, for replay_calls
   oracle recording KIND SEED PAIRS    an input of the symbol program
   oracle designs SEED COUNT           designs for `design`
 
-KIND is designed, extreme, refused or mixed for sheets, and designed or extreme for a recording.
+KIND is designed, extreme, small, refused or mixed for sheets, and designed or extreme for a recording.
 ";
 
 fn main() -> ExitCode {
@@ -55,6 +58,7 @@ fn run(words: &[&str], input: impl BufRead, output: &mut impl Write) -> io::Resu
         ["sheets", kind, seed, count] => {
             generate::sheets(kind, number(seed)?, number(count)?, output)
         }
+        ["calls", kind, seed, count] => calls::write(kind, number(seed)?, number(count)?, output),
         ["recording", kind, seed, pairs] => {
             generate::recording(kind, number(seed)?, number(pairs)?, output)
         }

@@ -1,18 +1,15 @@
 -- `arith::divide_down` meets its contract: of a number below zero, -(a + 1), the code divides a, which rounds toward zero, and flips the quotient back, which makes it round down.
 -- Any number divided by 0 is 0 in the definition's ℕ, so the sign is left.
-use Prim.Native.Nat.{ℕ, _/_, _^_, _≤_, _<_}
-use mathlib.Core.Path.{_≡_, refl, sym, ap, _∙_, subst}
-use mathlib.Core.Bool.{Bool, true, false, not}
-use native.Mathlib.Nat.{div-le-self, div-zero}
+use Prim.Native.Nat.{ℕ, _/_, _^_, _<_}
+use mathlib.Core.Path.{_≡_, sym, ap, _∙_}
+use native.Mathlib.Nat.{div-le-self}
 use native.Mathlib.Omega.{arith}
-use lib.Dec.{T}
-use lib.IntN.{ℤ, pos, negsuc, _-ℤ_}
-use lib.Signed.{mag, ltZ, quotZ, shrZ}
-use mir.Syntax.{w32, w64}
-use mir.Val.{SFits, Fits, toZ, ofZ}
-use mir.Facts.{toZ-ofZ, toZ-pos}
+use lib.IntN.{ℤ, pos, negsuc}
+use lib.Signed.{mag, shrZ}
+use mir.Syntax.{w64}
+use mir.Val.{SFits, toZ, ofZ}
+use mir.Facts.{toZ-ofZ}
 use borrow.Author.Needs.{needs, sfits-of}
-use borrow.Author.Tests.{ltb-true}
 use Rattle.arith.proofs.Order.{flip-down, flip-up, below-zero, not-below}
 use Rattle.arith.proofs.Bits.{shr-fits, whole}
 use Rattle.arith.proofs.Rounding.{shr-zero}

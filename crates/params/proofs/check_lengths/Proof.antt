@@ -1,13 +1,11 @@
 -- `params::check_lengths` meets its contract: it makes the definition's tests in the definition's order.
-use Prim.Native.Nat.{ℕ, _*_, _%_, _≤_, _<_}
-use mathlib.Core.Path.{_≡_, refl, ap, _∙_}
+use Prim.Native.Nat.{ℕ, _%_, _≤_, _<_}
+use mathlib.Core.Path.{_≡_, refl}
 use mathlib.Core.Bool.{Bool, true, false, _&&_}
-use mathlib.Core.List.{List, _∷_}
 use lib.Dec.{leb, eqb, lit<}
 use borrow.Author.Needs.{needs}
 use borrow.Author.Tests.{le-leb, lt-leb, eq-eqb, ne-eqb}
-use Rattle.params.specs.Refusal.{Refusal, refusal}
-use Rattle.params.specs.Judge.{unless, goodTaps, goodLength, lengthFaults}
+use Rattle.params.specs.Judge.{goodTaps, goodLength, lengthFaults}
 use Rattle.params.proofs.Faults.{First, none, keeps, breaks}
 use Rattle.params.proofs.check_lengths.Statement.{statement}
 use Rattle.params.proofs.check_lengths.Tie as tie

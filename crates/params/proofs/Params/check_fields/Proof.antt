@@ -2,8 +2,6 @@
 -- Past each test, the first of the faults that are left is the first of all.
 use Prim.Native.Nat.{ℕ}
 use mathlib.Core.Path.{_≡_, sym, _∙_}
-use mathlib.Core.Bool.{true, false}
-use native.Mathlib.Omega.{arith}
 use lib.Dec.{lit<}
 use lib.IntN.{pos}
 use lib.ListN.{drop}

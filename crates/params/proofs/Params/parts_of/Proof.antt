@@ -1,9 +1,9 @@
 -- `params::Params::parts_of` meets its contract: the difference of two unsigned 32-bit numbers takes 33 bits and a sign, and 10^9 less than 30 more,
 -- so nothing is lost before the division.
-use Prim.Native.Nat.{ℕ, _+_, _*_, _^_, _≤_, _<_}
+use Prim.Native.Nat.{ℕ}
 use mathlib.Core.Path.{_≡_, _∙_}
 use native.Mathlib.Omega.{arith}
-use lib.IntN.{ℤ, pos, natAbs, _-ℤ_, _*ℤ_}
+use lib.IntN.{pos, _-ℤ_, _*ℤ_}
 use mir.Syntax.{w32, w64}
 use mir.Val.{Fits, SFits, toZ, ofZ}
 use mir.Facts.{toZ-ofZ}

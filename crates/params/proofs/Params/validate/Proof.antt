@@ -1,9 +1,8 @@
 -- `params::Params::validate` meets its contract: it looks for faults of the lengths, then of the banks, then of the fields, as the definition does.
 -- An answer of "accepted" to one of them says that it has no fault, which is what the next one asks for.
-use Prim.Native.Nat.{ℕ, _≤_, _<_}
-use mathlib.Core.Path.{_≡_, refl, sym, ap, _∙_, subst}
-use mathlib.Core.List.{List, [], _++_}
-use native.Mathlib.Omega.{arith}
+use Prim.Native.Nat.{_<_}
+use mathlib.Core.Path.{_≡_, sym, ap, _∙_, subst}
+use mathlib.Core.List.{List, []}
 use borrow.Author.Needs.{needs}
 use Rattle.params.specs.declared.Verdict.{Verdict}
 use Rattle.params.specs.declared.Verdict.the-variants.{Accepted}

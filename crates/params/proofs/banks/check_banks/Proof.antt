@@ -1,17 +1,15 @@
 -- `params::banks::check_banks` meets its contract: it looks for the banks' faults in the definition's order and answers the first.
 -- What a bank's rows were found to be outside the detector's places is asked once all three have passed.
-use Prim.Native.Nat.{ℕ, _<_}
+use Prim.Native.Nat.{ℕ}
 use mathlib.Core.Path.{_≡_, refl, sym, ap, _∙_}
-use mathlib.Core.Bool.{true}
 use mathlib.Core.List.{List, [], _∷_}
 use lib.Dec.{lit<}
 use lib.IntN.{ℤ}
 use borrow.Author.Needs.{needs}
 use borrow.Author.Tests.{not-true, not-false}
-use Rattle.params.specs.declared.ParamError.{ParamError}
 use Rattle.params.specs.declared.Verdict.{Verdict}
-use Rattle.params.specs.declared.Verdict.the-variants.{Accepted, Refused}
-use Rattle.params.specs.Refusal.{Refusal, nothing, errorRefusal, verdictRefusal}
+use Rattle.params.specs.declared.Verdict.the-variants.{Accepted}
+use Rattle.params.specs.Refusal.{Refusal, errorRefusal, verdictRefusal}
 use Rattle.params.specs.Judge.{firstOf, rowsFaults, rowsOutside, bankFaults}
 use Rattle.params.proofs.Faults.{First, skip, stop, none, keeps, breaks, error-numbered, refused, first-none, rows-numbered}
 use Rattle.params.proofs.banks.check_banks.Statement.{statement}

@@ -1,10 +1,8 @@
 -- `params::banks::stay_centred` meets its contract: "and" of what was found so far and of this row, where the second is not looked at if the first is false.
-use Prim.Native.Nat.{ℕ}
-use mathlib.Core.Path.{_≡_, refl, sym, ap, _∙_}
-use mathlib.Core.Bool.{Bool, true, false, _&&_, true≢false}
+use mathlib.Core.Path.{sym, _∙_}
+use mathlib.Core.Bool.{true≢false}
 use borrow.Author.Needs.{needs}
 use borrow.Author.Tests.{not-true, not-false}
-use Rattle.params.specs.Judge.{zeroOutside}
 use Rattle.params.proofs.banks.stay_centred.Statement.{statement}
 use Rattle.params.proofs.banks.stay_centred.Tie as tie
 
