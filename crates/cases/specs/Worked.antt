@@ -10,7 +10,6 @@ use Rattle.params.specs.declared.Params.{Params}
 use Rattle.params.specs.Refusal.{refusal, nothing}
 use Rattle.params.specs.Judge.{detectorPlace, judged}
 use Rattle.params.specs.Offset.{offsetOf}
-use Rattle.fixed.specs.Start.{noPair}
 use Rattle.fixed.specs.Mix.{mixed}
 use Rattle.fixed.specs.Symbol.{quantised, gainError}
 use Rattle.cases.specs.Sheet.{paramsWith, sheetOf, sheet, firstOfK}
@@ -68,4 +67,4 @@ pub record Worked : Type 0 where
   pub offset-above : offsetOf sheet 33554465 ≡ record { refused = nothing; parts = pos 983 }
   pub offset-below : offsetOf sheet 33554399 ≡ record { refused = nothing; parts = negsuc 983 }
   -- P10
-  pub error-wraps : gainError narrow noPair ≡ negsuc 2147483647
+  pub error-wraps : gainError narrow (record { i = pos 0; q = pos 0 }) ≡ negsuc 2147483647

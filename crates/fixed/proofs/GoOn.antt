@@ -18,33 +18,25 @@ use Rattle.fixed.specs.declared.Frontend.{Frontend}
 use Rattle.fixed.specs.declared.Symbol.{Symbol}
 use Rattle.fixed.specs.Start.{startOf}
 use Rattle.fixed.specs.Loop.{loopDelay}
-use Rattle.fixed.specs.Block.{goodState, stateFaults, blockFaults, accepted, blockOf}
+use Rattle.fixed.specs.Block.{goodState, stateFaults, sizeFaults, blockFaults, accepted, blockOf}
 use Rattle.fixed.specs.Lists.{Call, answer, endState}
 use Rattle.fixed.specs.Timing.{StatesGoOn}
 use Rattle.fixed.proofs.Loops.{loopOf, Within}
-use Rattle.fixed.proofs.Invariant.{time, Inv, loopAt-within}
+use Rattle.fixed.proofs.States.{time, Going, good}
+use Rattle.fixed.proofs.Invariant.{Inv, loopAt-within}
 use Rattle.fixed.proofs.Timing.{ends-inv}
 
-both : {a b : Bool} → a ≡ true → b ≡ true → (a && b) ≡ true
-both {a} {b} p q = ap (λ (x : Bool). x && b) p ∙ q
-
 -- a state that a run has led to
-good : (s : Sheet) (a : Accepted s) (f : Frontend) (S : List Symbol) → Inv s f S → goodState (s .params) f ≡ true
-unfolding goodState
-good s a f S i =
-    let w : Within (s .params) (loopOf (f .registers)) = rw (i .loop) (loopAt-within s a S loopDelay) in
-    let t = time f in
-    both (both (both (both (both (both (both (both (both
-    (lt-ltb (f .head) (s .params .taps) (i .head))
-    (ap (leZ (pos 0)) (i .whole) ∙ le-leb 0 t (omega arith)))
-    (ap (λ (z : ℤ). ltZ z (pos 67108864)) (i .whole) ∙ lt-ltb t 67108864 (omega arith)))
-    (both (w .v .low) (w .v .high)))
-    (le-leb _ _ (w .low)))
-    (le-leb _ _ (w .high)))
-    (le-leb _ _ (w .gain)))
-    (eq-eqb (f .waiting) (min (f .registers .symbols) loopDelay) (rw (i .symbols) (i .waiting))))
-    (le-leb (f .oldest) 23 (omega arith)))
-    (le-leb (f .registers .symbols) (f .samples) (omega arith))
+going : (s : Sheet) (a : Accepted s) (f : Frontend) (S : List Symbol) → Inv s f S → Going (s .params) f
+going s a f S i = record {
+  head = i .head;
+  whole = i .whole;
+  soon = omega arith;
+  loop = rw (i .loop) (loopAt-within s a S loopDelay);
+  waiting = rw (i .symbols) (i .waiting);
+  oldest = omega arith;
+  few = omega arith;
+}
 
 -- the number of an answer is that of its first fault
 numbered : (s : Sheet) (f : Frontend) (c : Call) → answer s f c .refused .number ≡ firstOf (blockFaults s f (c .values) (c .out)) .number
@@ -59,12 +51,13 @@ numbered s f c = go (eqb n 0) refl
     go false e = rw e
 
 -- faults of which only 10, 11 and 12 are left
-own : (l : List Refusal) → l ≡ [] → (x y z : Bool)
-    → let r = firstOf (flatten (l ∷ unless x (refusal 10 []) ∷ unless y (refusal 11 []) ∷ unless z (refusal 12 []) ∷ [])) in (r .number ≡ 0) ⊎ (10 ≤ r .number)
-unfolding flatten
-own l e x y z = rw e (by x y z)
+own : (l : List Refusal) → l ≡ [] → (f : Frontend) (values places : ℕ)
+    → let r = firstOf (l ++ sizeFaults f values places) in (r .number ≡ 0) ⊎ (10 ≤ r .number)
+unfolding sizeFaults flatten
+own l e f values places =
+    rw e (by (eqb (values % 2) 0) (leb (20 * (values / 2)) places) (leb (f .samples + values / 2) 9223372036854775807))
   where
-    by : (x y z : Bool) → let r = firstOf (flatten ([] ∷ unless x (refusal 10 []) ∷ unless y (refusal 11 []) ∷ unless z (refusal 12 []) ∷ [])) in (r .number ≡ 0) ⊎ (10 ≤ r .number)
+    by : (x y z : Bool) → let r = firstOf (unless x (refusal 10 []) ++ (unless y (refusal 11 []) ++ (unless z (refusal 12 []) ++ []))) in (r .number ≡ 0) ⊎ (10 ≤ r .number)
     by false y z = inr (omega arith)
     by true false z = inr (omega arith)
     by true true false = inr (omega arith)
@@ -75,8 +68,7 @@ unfolding startOf blockFaults
 states-go-on s ok cs c =
     let none : faults s ≡ [] = judged-none s ok in
     let f : Frontend = endState s cs in
-    let g = good s (no-faults s none) f _ (ends-inv s ok cs) in
+    let g = good (s .params) f (going s (no-faults s none) f _ (ends-inv s ok cs)) in
     let e : stateFaults s f ≡ [] = ap (λ (l : List Refusal). l ++ unless (goodState (s .params) f) (refusal 9 [])) none ∙ ap (λ (b : Bool). unless b (refusal 9 [])) g in
     subst (λ (n : ℕ). (n ≡ 0) ⊎ (10 ≤ n)) (sym (numbered s f c))
-    (own (stateFaults s f) e (eqb (length (c .values) % 2) 0) (leb (20 * (length (c .values) / 2)) (length (c .out)))
-    (leb (f .samples + length (c .values) / 2) 9223372036854775807))
+    (own (stateFaults s f) e f (length (c .values)) (length (c .out)))

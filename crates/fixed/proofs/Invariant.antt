@@ -24,17 +24,10 @@ use Rattle.fixed.specs.declared.Symbol.{Symbol}
 use Rattle.fixed.specs.Start.{noPending, fresh}
 use Rattle.fixed.specs.Line.{nextHead}
 use Rattle.fixed.specs.Loop.{loopDelay, corrected}
-use Rattle.fixed.specs.Symbol.{due, symbolOf}
+use Rattle.fixed.specs.Symbol.{due, symbolFrom, symbolOf}
 use Rattle.fixed.specs.Sample.{one, joined, withSymbol, withoutSymbol, falls, next, madeBy, after, emitted}
+use Rattle.fixed.proofs.States.{time, minus-nat, head-below, due-time, due-symbols}
 use Rattle.fixed.proofs.Loops.{total, total-append, errors, errorsOf, errors-append, length-errors, Loop, loopOf, corrected-moves, movedBy, movedBy-snoc, freshLoop, Within, loop-within}
-
--- a difference of naturals that is not below zero
-minus-nat : (a b : ℕ) → b ≤ a → pos a -ℤ pos b ≡ pos (a - b)
-minus-nat a b h = eq-pn (pos a -ℤ pos b) (pos (a - b)) (omega (arith, minus-pn (pos a) (pos b)))
-
--- time to the next symbol, in 2^24ths of a sample
-abbrev pub time : Frontend → ℕ
-time f = natAbs (f .registers .«t_acc»)
 
 module _ (s : Sheet) where
   -- the loop after the errors of all but the newest `late` of the symbols S
@@ -94,14 +87,6 @@ module _ (s : Sheet) where
 
     -- ---- mixing and the line leave all of it as it was, but for the newest's position
 
-    head-below : (taps head : ℕ) → 4 ≤ taps → head < taps → nextHead taps head < taps
-    unfolding nextHead
-    head-below taps head l h = go (eqb head 0) refl
-      where
-        go : (b : Bool) → eqb head 0 ≡ b → cond (eqb head 0) (taps - 1) (head - 1) < taps
-        go true e = rw e (omega arith)
-        go false e = rw e (omega arith)
-
     joined-inv : (f : Frontend) (S : List Symbol) (x : Pair) → Inv f S → Inv (joined s f x) S
     unfolding joined
     joined-inv f S x i = record {
@@ -115,7 +100,7 @@ module _ (s : Sheet) where
       oldest = i .oldest;
       queue = i .queue;
       few = i .few;
-      head = head-below (s .params .taps) (f .head) (a .lengths .good .least) (i .head);
+      head = head-below (s .params .taps) (f .head) (i .head);
     }
 
     -- ---- a sample without a symbol
@@ -140,23 +125,6 @@ module _ (s : Sheet) where
         }
 
     -- ---- a sample with one
-
-    -- the errors that are due move the loop, and nothing else
-    due-time : (f : Frontend) → due (s .params) f .«t_acc» ≡ f .registers .«t_acc»
-    unfolding due corrected
-    due-time f = go (eqb (f .waiting) loopDelay) refl
-      where
-        go : (b : Bool) → eqb (f .waiting) loopDelay ≡ b → due (s .params) f .«t_acc» ≡ f .registers .«t_acc»
-        go true e = rw e
-        go false e = rw e
-
-    due-symbols : (f : Frontend) → due (s .params) f .symbols ≡ f .registers .symbols
-    unfolding due corrected
-    due-symbols f = go (eqb (f .waiting) loopDelay) refl
-      where
-        go : (b : Bool) → eqb (f .waiting) loopDelay ≡ b → due (s .params) f .symbols ≡ f .registers .symbols
-        go true e = rw e
-        go false e = rw e
 
     -- the loop as a symbol finds it: after the errors of all but the newest before it, one fewer than the delay
     due-loop : (f : Frontend) (S : List Symbol) → Inv f S → loopOf (due (s .params) f) ≡ loopAt S (loopDelay - 1)
@@ -188,7 +156,7 @@ module _ (s : Sheet) where
     loopAt-within S late = loop-within (s .params) (a .periods) (a .fields) (take (length S - late) (errors S))
 
     symbol-placed : (f : Frontend) (S : List Symbol) → Inv f S → time f < 16777216 → Placed S (symbolOf s f)
-    unfolding symbolOf
+    unfolding symbolOf symbolFrom
     symbol-placed f S i h = record {
       place = omega arith;
       phase = omega arith;
@@ -237,7 +205,7 @@ module _ (s : Sheet) where
         go false e = let d : c ≢ loopDelay = eqb-false c loopDelay e in rw e (omega arith)
 
     total-snoc : (f : Frontend) (S : List Symbol) → total (S ++ (symbolOf s f ∷ [])) ≡ total S + due (s .params) f .period
-    unfolding total symbolOf
+    unfolding total symbolOf symbolFrom
     total-snoc f S = omega (arith, total-append S (symbolOf s f ∷ []))
 
     -- the time after a symbol
@@ -245,7 +213,7 @@ module _ (s : Sheet) where
         → due (s .params) f .«t_acc» +ℤ pos (due (s .params) f .period) -ℤ one ≡ pos (time f + due (s .params) f .period - 16777216)
     time-on f S i =
         let w : Within (s .params) (loopOf (due (s .params) f)) = rw (due-loop f S i) (loopAt-within S (loopDelay - 1)) in
-        ap (λ (z : ℤ). z +ℤ pos (due (s .params) f .period) -ℤ one) (due-time f ∙ i .whole)
+        ap (λ (z : ℤ). z +ℤ pos (due (s .params) f .period) -ℤ one) (due-time (s .params) f ∙ i .whole)
         ∙ minus-nat (time f + due (s .params) f .period) 16777216 (omega (arith, a .periods))
 
     sounded-inv : (f : Frontend) (S : List Symbol) → Inv f S → time f < 16777216 → Inv (withSymbol s f) (S ++ (symbolOf s f ∷ []))
@@ -258,7 +226,7 @@ module _ (s : Sheet) where
         let t = time-on f S i in
         let n : natAbs (r .«t_acc» +ℤ pos (r .period) -ℤ one) ≡ time f + r .period - 16777216 = ap natAbs t in
         record {
-          symbols = omega (arith, due-symbols f);
+          symbols = omega (arith, due-symbols (s .params) f);
           whole = t ∙ ap pos (sym n);
           sum = omega (arith, total-snoc f S, a .periods);
           rest = omega (arith, a .periods);

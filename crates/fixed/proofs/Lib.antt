@@ -2,6 +2,11 @@
 pub mod Runs
 pub mod Calls
 pub mod Loops
+pub mod States
 pub mod Invariant
 pub mod Timing
 pub mod GoOn
+pub mod Widths
+pub mod Filling
+pub mod RowSums
+pub mod Centre

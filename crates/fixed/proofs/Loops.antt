@@ -112,7 +112,7 @@ module _ (p : Params) (k : GoodPeriods p) (f : GoodFields p) where
     gain = f .agc-init;
   }
 
-  moved-within : (l : Loop) (w : Pending) → Within p (moved p l w)
+  pub moved-within : (l : Loop) (w : Pending) → Within p (moved p l w)
   unfolding moved nextV nextPeriod nextGain
   moved-within l w =
       let period = held-within _ (p .«period_min») (p .«period_max») (omega arith) in

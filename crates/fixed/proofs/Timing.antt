@@ -17,6 +17,7 @@ use Rattle.params.specs.Judge.{Sheet}
 use Rattle.params.proofs.Accepted.{Accepted, judged-none, no-faults}
 use Rattle.fixed.specs.declared.Pair.{Pair}
 use Rattle.fixed.specs.declared.Frontend.{Frontend}
+use Rattle.fixed.specs.declared.Output.{Output}
 use Rattle.fixed.specs.declared.Symbol.{Symbol}
 use Rattle.fixed.specs.Start.{noPair, atRest, fresh, startOf}
 use Rattle.fixed.specs.Filter.{sumTo}
@@ -29,21 +30,25 @@ use Rattle.fixed.specs.Timing.{placeAt, sampleAt, phaseAt, gainAt, perio
 use Rattle.fixed.proofs.Runs.{emitted-append, length-flattened, place-flattened}
 use Rattle.fixed.proofs.Calls.{calls-state, calls-written, calls-counted}
 use Rattle.fixed.proofs.Loops.{total, total-append, total-suc, errors, errors-take, Loop, movedBy, freshLoop}
-use Rattle.fixed.proofs.Invariant.{time, loopAt, Inv, Placed, each-at, fresh-inv, loopAt-within, run-inv, run-placed, run-samples}
+use Rattle.fixed.proofs.States.{time}
+use Rattle.fixed.proofs.Invariant.{loopAt, Inv, Placed, each-at, fresh-inv, loopAt-within, run-inv, run-placed, run-samples}
+
+abbrev noOutput : Output
+noOutput = record { i = pos 0; q = pos 0 }
 
 abbrev noSymbol : Symbol
 noSymbol = record {
   sample = 0;
   phase = 0;
-  y = noPair;
-  dy = noPair;
-  yk = noPair;
+  y = noOutput;
+  dy = noOutput;
+  yk = noOutput;
   gain = 0;
   period = 0;
-  z = noPair;
-  dz = noPair;
-  zk = noPair;
-  q = noPair;
+  z = noOutput;
+  dz = noOutput;
+  zk = noOutput;
+  q = noOutput;
   e = pos 0;
   err = pos 0;
 }

@@ -36,15 +36,18 @@ goodState p f =
 abbrev pub stateFaults : Sheet → Frontend → List Refusal
 stateFaults s f = faults s ++ unless (goodState (s .params) f) (refusal 9 [])
 
--- 1 to 12, of a block: then 10, an odd number of values; 11, fewer than 20 places for each pair; 12, more samples in all than 2^63 - 1.
-unfoldable pub blockFaults : Sheet → Frontend → List ℤ → List ℤ → List Refusal
-blockFaults s f values out =
+-- 10 to 12, of so many sample values and output places: an odd number of values, fewer than 20 places for each pair, more samples in all than 2^63 - 1.
+unfoldable pub sizeFaults : Frontend → ℕ → ℕ → List Refusal
+sizeFaults f values places =
     flatten
-    (stateFaults s f
-    ∷ unless (eqb (length values % 2) 0) (refusal 10 [])
-    ∷ unless (leb (20 * (length values / 2)) (length out)) (refusal 11 [])
-    ∷ unless (leb (f .samples + length values / 2) 9223372036854775807) (refusal 12 [])
+    (unless (eqb (values % 2) 0) (refusal 10 [])
+    ∷ unless (leb (20 * (values / 2)) places) (refusal 11 [])
+    ∷ unless (leb (f .samples + values / 2) 9223372036854775807) (refusal 12 [])
     ∷ [])
+
+-- 1 to 12, of a block.
+unfoldable pub blockFaults : Sheet → Frontend → List ℤ → List ℤ → List Refusal
+blockFaults s f values out = stateFaults s f ++ sizeFaults f (length values) (length out)
 
 -- ---- what a block does
 

@@ -8,5 +8,6 @@ pub mod Loop
 pub mod Symbol
 pub mod Sample
 pub mod Block
+pub mod Inside
 pub mod Lists
 pub mod Timing

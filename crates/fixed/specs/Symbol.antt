@@ -10,7 +10,7 @@ use lib.Signed.{shrZ}
 use Rattle.arith.specs.Arith.{roundShift, clampZ, sat16Z, wrapI32}
 use Rattle.params.specs.declared.Params.{Params}
 use Rattle.params.specs.Judge.{Sheet}
-use Rattle.fixed.specs.declared.Pair.{Pair}
+use Rattle.fixed.specs.declared.Output.{Output}
 use Rattle.fixed.specs.declared.Registers.{Registers}
 use Rattle.fixed.specs.declared.Frontend.{Frontend}
 use Rattle.fixed.specs.declared.Sums.{Sums}
@@ -24,11 +24,11 @@ unfoldable pub due : Params → Frontend → Registers
 due p f = cond (eqb (f .waiting) loopDelay) (corrected p (f .registers) (getD (f .pending) (f .oldest) noPending)) (f .registers)
 
 -- A filter's sums as an output: without their 14 fractional bits, within 16 bits.
-abbrev pub outputOf : Sums → Pair
+abbrev pub outputOf : Sums → Output
 outputOf x = record { i = sat16Z (roundShift (x .i) 14); q = sat16Z (roundShift (x .q) 14) }
 
 -- An output times the gain, which has 10 fractional bits, within 16 bits.
-abbrev pub amplified : ℕ → Pair → Pair
+abbrev pub amplified : ℕ → Output → Output
 amplified gain x = record { i = sat16Z (roundShift (x .i *ℤ pos gain) 10); q = sat16Z (roundShift (x .q *ℤ pos gain) 10) }
 
 -- An amplified output at the width of the output components.
@@ -36,30 +36,26 @@ unfoldable pub quantised : Params → ℤ → ℤ
 quantised p v = clampZ (roundShift v (p .«q_shift»)) (negℤ (pos (2 ^ (p .bits - 1)))) (pos (2 ^ (p .bits - 1) - 1))
 
 -- The timing error: the product of output and derivative, over both components.
-unfoldable pub timingError : Params → Pair → Pair → ℤ
+unfoldable pub timingError : Params → Output → Output → ℤ
 timingError p z dz = clampZ (shrZ (z .i *ℤ dz .i +ℤ z .q *ℤ dz .q) (2 ^ p .«ted_shift»)) (negsuc 8388606) (pos 8388607)
 
 -- The gain error: what the power of the output lacks, within 32 bits signed.
-unfoldable pub gainError : Params → Pair → ℤ
+unfoldable pub gainError : Params → Output → ℤ
 gainError p zk = wrapI32 (pos (p .«agc_target») -ℤ shrZ (zk .i *ℤ zk .i +ℤ zk .q *ℤ zk .q) 4096)
 
--- The symbol that falls due in this state, once the sample has joined the line. y, dy and yk come from the banks h, g and k.
-unfoldable pub symbolOf : Sheet → Frontend → Symbol
-symbolOf s f =
-    let p : Params = s .params in
-    let r : Registers = due p f in
-    let phase : ℕ = natAbs (f .registers .«t_acc») / 2 ^ 18 in
+-- What a symbol is made of: the registers as it finds them, the samples before its own, its phase, and the sums of h, g and k, from which y, dy and yk come.
+unfoldable pub symbolFrom : Params → Registers → ℕ → ℕ → List Sums → Symbol
+symbolFrom p r sample phase sums =
     let gain : ℕ = r .«gain_acc» / 256 in
-    let sums : List Sums = filtered s phase (f .line) (f .head) in
     let none : Sums = record { i = pos 0; q = pos 0 } in
-    let y : Pair = outputOf (getD sums 0 none) in
-    let dy : Pair = outputOf (getD sums 1 none) in
-    let yk : Pair = outputOf (getD sums 2 none) in
-    let z : Pair = amplified gain y in
-    let dz : Pair = amplified gain dy in
-    let zk : Pair = amplified gain yk in
+    let y : Output = outputOf (getD sums 0 none) in
+    let dy : Output = outputOf (getD sums 1 none) in
+    let yk : Output = outputOf (getD sums 2 none) in
+    let z : Output = amplified gain y in
+    let dz : Output = amplified gain dy in
+    let zk : Output = amplified gain yk in
     record {
-      sample = f .samples;
+      sample = sample;
       phase = phase;
       y = y;
       dy = dy;
@@ -73,6 +69,12 @@ symbolOf s f =
       e = timingError p z dz;
       err = gainError p zk;
     }
+
+-- The symbol that falls due in this state, once the sample has joined the line.
+unfoldable pub symbolOf : Sheet → Frontend → Symbol
+symbolOf s f =
+    let phase : ℕ = natAbs (f .registers .«t_acc») / 2 ^ 18 in
+    symbolFrom (s .params) (due (s .params) f) (f .samples) phase (filtered s phase (f .line) (f .head))
 
 -- A symbol's 20 places.
 unfoldable pub placesOf : Symbol → List ℤ

@@ -11,17 +11,8 @@ use borrow.Author.Tests.{ltb-true, leb-true, eqb-true}
 use Rattle.params.specs.declared.Params.{Params}
 use Rattle.params.specs.Refusal.{Refusal, refusal, nothing}
 use Rattle.params.specs.Judge.{Sheet, goodTaps, goodLength, lengthFaults, rowsFaults, bankFaults, rowsOutside, goodPeriods, fieldFault, fieldFaults, faults, judged}
+use Rattle.params.proofs.Rows.{and-left, and-right}
 use Rattle.params.proofs.Faults.{kept, none-at, none-left, none-right, first-none, faults-numbered}
-
--- ---- tests joined by "and"
-
-pub and-left : (a b : Bool) → (a && b) ≡ true → a ≡ true
-and-left true b e = refl
-and-left false b e = e
-
-pub and-right : (a b : Bool) → (a && b) ≡ true → b ≡ true
-and-right true b e = e
-and-right false b e = let z : _≡_ {A = ℕ} 0 1 = cc in absurd (omega arith)
 
 -- ---- the rules as facts
 

@@ -77,6 +77,14 @@ module _ (bank phase : ℕ) where
 
 -- ---- tests on sums
 
+pub and-left : (a b : Bool) → (a && b) ≡ true → a ≡ true
+and-left true b e = refl
+and-left false b e = e
+
+pub and-right : (a b : Bool) → (a && b) ≡ true → b ≡ true
+and-right true b e = e
+and-right false b e = let z : _≡_ {A = ℕ} 0 1 = cc in absurd (omega arith)
+
 pub and-assoc : (x y z : Bool) → (x && (y && z)) ≡ (x && y && z)
 and-assoc true y z = refl
 and-assoc false y z = refl

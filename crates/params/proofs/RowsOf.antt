@@ -5,12 +5,14 @@ use mathlib.Core.Bool.{Bool, true, false, _&&_}
 use mathlib.Core.List.{List, [], _++_, append-assoc}
 use native.Mathlib.Nat.{suc-mul, mul-le-mul-right}
 use native.Mathlib.Omega.{arith}
+use lib.Dec.{leb}
 use lib.ListN.{length, take, drop, length-drop}
 use lib.Seq.{length-take-le}
 use lib.IntN.{ℤ}
-use Rattle.params.specs.Judge.{firstOf, rowOf, rowFaults, rowsFaults, zeroOutside, rowsOutside}
-use Rattle.params.proofs.Faults.{first-append}
-use Rattle.params.proofs.Rows.{and-assoc}
+use borrow.Author.Tests.{leb-true}
+use Rattle.params.specs.Judge.{firstOf, rowOf, coefficientFaults, magnitudes, rowFaults, rowsFaults, zeroOutside, rowsOutside}
+use Rattle.params.proofs.Faults.{kept, none-left, none-right, first-append}
+use Rattle.params.proofs.Rows.{and-assoc, and-left, and-right}
 
 -- ---- the rows of a bank
 
@@ -76,3 +78,30 @@ module _ (taps : ℕ) (cs : List ℤ) where
 
   pub outside-suc : (n : ℕ) → rowsOutside taps cs 0 (n + 1) ≡ (rowsOutside taps cs 0 n && zeroOutside taps 0 (rowOf taps cs n))
   outside-suc n = let z : 0 + n ≡ n = omega arith in outside-split 0 n ∙ rw z
+
+  -- ---- what holds of each row of a bank that was accepted
+
+  row-none : (bank r m n : ℕ) → n < m → rowsFaults taps bank cs r m ≡ [] → rowFaults bank (r + n) (rowOf taps cs (r + n)) ≡ []
+  unfolding rowsFaults
+  row-none bank r zero n h e = absurd (omega arith)
+  row-none bank r (suc m) zero h e = let z : r + zero ≡ r = omega arith in rw z (none-left _ _ e)
+  row-none bank r (suc m) (suc n) h e =
+      let z : r + suc n ≡ suc r + n = omega arith in
+      rw z (row-none bank (suc r) m n (omega arith) (none-right (rowFaults bank r (rowOf taps cs r)) _ e))
+
+  pub row-light : (bank n : ℕ) → n < 64 → rowsFaults taps bank cs 0 64 ≡ [] → magnitudes (rowOf taps cs n) ≤ 131071
+  unfolding rowFaults
+  row-light bank n h e =
+      let z : 0 + n ≡ n = omega arith in
+      let row = rowOf taps cs n in
+      let none : rowFaults bank n row ≡ [] = rw z at (row-none bank 0 64 n h e) in
+      leb-true (magnitudes row) 131071 (kept (leb (magnitudes row) 131071) _ (none-right (coefficientFaults bank n row) _ none))
+
+  row-zero : (r m n : ℕ) → n < m → rowsOutside taps cs r m ≡ true → zeroOutside taps 0 (rowOf taps cs (r + n)) ≡ true
+  unfolding rowsOutside
+  row-zero r zero n h e = absurd (omega arith)
+  row-zero r (suc m) zero h e = let z : r + zero ≡ r = omega arith in rw z (and-left _ _ e)
+  row-zero r (suc m) (suc n) h e = let z : r + suc n ≡ suc r + n = omega arith in rw z (row-zero (suc r) m n (omega arith) (and-right (zeroOutside taps 0 (rowOf taps cs r)) _ e))
+
+  pub row-centred : (n : ℕ) → n < 64 → rowsOutside taps cs 0 64 ≡ true → zeroOutside taps 0 (rowOf taps cs n) ≡ true
+  row-centred n h e = let z : 0 + n ≡ n = omega arith in rw z at (row-zero 0 64 n h e)

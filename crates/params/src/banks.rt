@@ -56,29 +56,12 @@ fn row_error(bank: u8, phase: usize, row: &[i32], sum: u64) -> ParamError
     ParamError::CoefficientSum { bank, phase, sum }
 }
 
-// Where the timing detector's places begin and end.
-struct Detector {
-    low: usize,
-    high: usize,
-}
-
-fn detector_of(taps: usize) -> Detector
-    requires { ⌜ taps ≤ 64 ⌝ }
-    ensures { λ r. ⌜ (r .low ≡ (taps - 8) / 2) × (r .high ≡ r .low + min 8 taps) ⌝ }
-{
-    if taps < 8 {
-        return Detector { low: 0, high: taps };
-    }
-    let low = (taps - 8) / 2;
-    Detector { low, high: low + 8 }
-}
-
 // Whether a row is zero outside the detector's places: then those have all that there is of its magnitudes.
 fn is_centred(row: &[i32], sum: u64) -> bool
     requires { ⌜ (length (now row) ≤ 64) × (sum ≡ magnitudes (now row)) ⌝ }
     ensures { λ r. ⌜ r ≡ zeroOutside (length (now (row .entry))) 0 (now (row .entry)) ⌝ }
 {
-    let d = detector_of(row.len());
+    let d = crate::detector_of(row.len());
     let low = d.low;
     let high = d.high;
     magnitude_sum(&row[low..high]) == sum

@@ -3,6 +3,7 @@ mod banks;
 
 ghost use mathlib.Core.Path.{_≡_};
 ghost use mathlib.Core.Bool.{_&&_};
+ghost use Prim.Native.Nat.{_+_, _-_, _/_, min};
 ghost use lib.Dec.{leb};
 ghost use lib.IntN.{pos};
 ghost use Rattle.params.specs.Refusal.{verdictRefusal};
@@ -69,6 +70,22 @@ pub enum OffsetVerdict {
 pub struct Offset {
     pub verdict: OffsetVerdict,
     pub parts: i64,
+}
+
+// Where the timing detector's places of a row begin and end: the eight in the middle, or all of a row that has fewer.
+pub struct Detector {
+    pub low: usize,
+    pub high: usize,
+}
+
+pub fn detector_of(taps: usize) -> Detector
+    ensures { λ r. ⌜ (r .low ≡ (taps - 8) / 2) × (r .high ≡ r .low + min 8 taps) ⌝ }
+{
+    if taps < 8 {
+        return Detector { low: 0, high: taps };
+    }
+    let low = (taps - 8) / 2;
+    Detector { low, high: low + 8 }
 }
 
 // 1 and 2: the taps, then the lengths of h, g and k.

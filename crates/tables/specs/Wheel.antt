@@ -1,5 +1,5 @@
 -- The cosine wheel. Three quarters of it mirror the first, of which the numbers stand here.
-use Prim.Native.Nat.{ℕ, _+_, _-_, _%_, _≤_, _<_}
+use Prim.Native.Nat.{ℕ, zero, suc, _+_, _-_, _%_, _≤_, _<_}
 use mathlib.Core.Path.{_≡_}
 use mathlib.Core.Bool.{cond}
 use mathlib.Core.List.{List, [], _∷_}
@@ -38,6 +38,14 @@ wheel k =
     (cond (leb i 512) (negℤ (pos (getD quarter (512 - i) 0)))
     (cond (leb i 768) (negℤ (pos (getD quarter (i - 512) 0)))
     (pos (getD quarter (1024 - i) 0))))
+
+-- The wheel's n entries from step k on, and all of them.
+unfoldable pub entries : ℕ → ℕ → List ℤ
+entries k zero = []
+entries k (suc n) = wheel k ∷ entries (suc k) n
+
+unfoldable pub wheelTable : List ℤ
+wheelTable = entries 0 1024
 
 -- What makes a wheel w a cosine of amplitude 32767: its height at 0 and at a quarter, that half a turn negates it, that it is the same to both sides of 0, that it
 -- falls or stays level over half a turn, and that it and its sine (three quarters on) lie on the circle, up to rounding.

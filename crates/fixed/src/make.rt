@@ -1,0 +1,101 @@
+// A symbol: what is made of the sums (document 01: "A symbol", from its outputs to its errors).
+use crate::Output;
+use crate::Registers;
+use crate::Sums;
+use crate::Symbol;
+use params::Params;
+ghost use mathlib.Core.Path.{_≡_};
+ghost use Prim.Native.Nat.{_/_, _≤_};
+ghost use Rattle.fixed.specs.Symbol.{outputOf, amplified, quantised, timingError, gainError, symbolFrom};
+
+// A filter's sums as an output.
+fn output_of(s: Sums) -> Output
+    ensures { λ r. ⌜ r ≡ outputOf s ⌝ }
+{
+    Output {
+        i: arith::sat16(arith::round_shift(s.i, 14)),
+        q: arith::sat16(arith::round_shift(s.q, 14)),
+    }
+}
+
+// An output times the gain.
+fn amplify(gain: u16, x: Output) -> Output
+    ensures { λ r. ⌜ r ≡ amplified gain x ⌝ }
+{
+    Output {
+        i: arith::sat16(arith::round_shift((x.i as i64) * (gain as i64), 10)),
+        q: arith::sat16(arith::round_shift((x.q as i64) * (gain as i64), 10)),
+    }
+}
+
+// A component at the width of the output.
+fn quantise(p: Params, v: i16) -> i16
+    requires { ⌜ (1 ≤ p .bits) × (p .bits ≤ 16) ⌝ }
+    ensures { λ r. ⌜ r ≡ quantised p v ⌝ }
+{
+    let end: i64 = 1 << (p.bits as u32 - 1);
+    arith::clamp(
+        arith::round_shift(v as i64, p.q_shift as u32),
+        0 - end,
+        end - 1,
+    ) as i16
+}
+
+fn timing_error(p: Params, z: Output, dz: Output) -> i32
+    ensures { λ r. ⌜ r ≡ timingError p z dz ⌝ }
+{
+    let product = (z.i as i64) * (dz.i as i64) + (z.q as i64) * (dz.q as i64);
+    arith::clamp(
+        arith::shift_right(product, p.ted_shift as u32),
+        -8388607,
+        8388607,
+    ) as i32
+}
+
+fn agc_error(p: Params, zk: Output) -> i32
+    ensures { λ r. ⌜ r ≡ gainError p zk ⌝ }
+{
+    let power = (zk.i as i64) * (zk.i as i64) + (zk.q as i64) * (zk.q as i64);
+    arith::wrap_i32(p.agc_target as i64 - (power >> 12))
+}
+
+// The gain, the upper 16 of the accumulator's 24 bits.
+pub(crate) fn gain_of(acc: u32) -> u16
+    requires { ⌜ acc ≤ 16777215 ⌝ }
+    ensures { λ r. ⌜ r ≡ acc / 256 ⌝ }
+{
+    (acc / 256) as u16
+}
+
+// The symbol of these registers, sample, phase and sums.
+pub(crate) fn make(p: Params, r: Registers, sample: u64, phase: u8, sums: [Sums; 3]) -> Symbol
+    requires { ⌜ (1 ≤ p .bits) × ((p .bits ≤ 16) × (r .«gain_acc» ≤ 16777215)) ⌝ }
+    ensures { λ y. ⌜ y ≡ symbolFrom p r sample phase sums ⌝ }
+{
+    let gain = gain_of(r.gain_acc);
+    let y = output_of(sums[0]);
+    let dy = output_of(sums[1]);
+    let yk = output_of(sums[2]);
+    let z = amplify(gain, y);
+    let dz = amplify(gain, dy);
+    let zk = amplify(gain, yk);
+    let q = Output {
+        i: quantise(p, zk.i),
+        q: quantise(p, zk.q),
+    };
+    Symbol {
+        sample,
+        phase,
+        y,
+        dy,
+        yk,
+        gain,
+        period: r.period,
+        z,
+        dz,
+        zk,
+        q,
+        e: timing_error(p, z, dz),
+        err: agc_error(p, zk),
+    }
+}
