@@ -30,8 +30,8 @@ use Rattle.fixed.specs.Symbol.{due, symbolFrom, symbolOf}
 use Rattle.fixed.specs.Sample.{one, joined, withSymbol, withoutSymbol, falls, next, madeBy}
 use Rattle.fixed.specs.Block.{goodState}
 use Rattle.fixed.specs.Inside.{lowered, Twice, Laid, Queued, bare, Stands, Ready}
-use Rattle.fixed.proofs.Loops.{Loop, Within}
-use Rattle.fixed.proofs.States.{time, head-below, Going, going, good, joined-going, silent-going, sounded-going}
+use Rattle.fixed.proofs.Loops.{Loop, loopOf, Within}
+use Rattle.fixed.proofs.States.{time, head-below, due-time, due-symbols, Going, going, good, due-within, joined-going, silent-going, sounded-going}
 
 -- ---- the line
 
@@ -106,3 +106,186 @@ v-small p l f w = go (f .integrator .0) (f .integrator .1) (f .integrator .2)
     go n e h =
         let is : integratorEnd p ≡ pos (n * 65536) = rw e refl in
         omega (arith, between-abs (n * 65536) (l .v) (rw is at (w .v .low)) (rw is at (w .v .high)))
+
+-- ---- registers and positions
+
+-- The registers as a symbol finds them, of what a block keeps.
+abbrev pub dueIn : Params → List ℤ → List ℤ → Registers → Position → Registers
+dueIn p e err r w = cond (eqb (w .waiting) 24) (corrected p r (record { e = getD e (w .oldest) (pos 0); err = getD err (w .oldest) (pos 0) })) r
+
+-- The registers after a symbol, from those that it found.
+abbrev pub sounded : Registers → Registers
+sounded d = record { nco = d .nco; «t_acc» = d .«t_acc» +ℤ pos (d .period) -ℤ one; v = d .v; period = d .period; «gain_acc» = d .«gain_acc»; symbols = d .symbols + 1 }
+
+-- The registers after a sample without a symbol.
+abbrev pub silent : Registers → Registers
+silent r = record { nco = r .nco; «t_acc» = r .«t_acc» -ℤ one; v = r .v; period = r .period; «gain_acc» = r .«gain_acc»; symbols = r .symbols }
+
+-- The positions after a symbol, and after a sample without one.
+abbrev pub placed : Position → Position
+placed w = record {
+  head = w .head;
+  oldest = cond (eqb (w .waiting) 24) ((w .oldest + 1) % 24) (w .oldest);
+  waiting = cond (eqb (w .waiting) 24) 24 (w .waiting + 1);
+  samples = w .samples + 1;
+}
+
+abbrev pub passed : Position → Position
+passed w = record { head = w .head; oldest = w .oldest; waiting = w .waiting; samples = w .samples + 1 }
+
+module _ (p : Params) (h g k : List ℤ) (i q : List ℕ) (e err : List ℤ) (r : Registers) (w : Position) (ready : Ready p h g k i q e err r w) where
+  abbrev s : Sheet
+  s = sheetOf p h g k
+
+  pub accepted : Accepted s
+  accepted = no-faults s (judged-none s (ready .accepted))
+
+  pub ready-going : Going p (bare r w)
+  ready-going = going p (bare r w) (ready .good)
+
+  -- The state that is made of registers and positions, with the errors that would be applied.
+  abbrev f₀ : Frontend
+  f₀ = record {
+    registers = r;
+    line = [];
+    head = w .head;
+    pending = set (replicate 24 noPending) (w .oldest) (record { e = getD e (w .oldest) (pos 0); err = getD err (w .oldest) (pos 0) });
+    oldest = w .oldest;
+    waiting = w .waiting;
+    samples = w .samples;
+  }
+
+  going₀ : Going p f₀
+  going₀ = record {
+    head = ready-going .head;
+    whole = ready-going .whole;
+    soon = ready-going .soon;
+    loop = ready-going .loop;
+    waiting = ready-going .waiting;
+    oldest = ready-going .oldest;
+    few = ready-going .few;
+  }
+
+  due₀ : due p f₀ ≡ dueIn p e err r w
+  unfolding due
+  due₀ =
+      ap (λ (x : Pending). cond (eqb (w .waiting) 24) (corrected p r x) r)
+      (getD-set-same (replicate 24 noPending) (w .oldest) (record { e = getD e (w .oldest) (pos 0); err = getD err (w .oldest) (pos 0) }) noPending (omega (arith, ready-going .oldest)))
+
+  -- the registers as a symbol finds them are within their bounds
+  pub due-small : Within p (loopOf (dueIn p e err r w))
+  due-small = subst (λ (d : Registers). Within p (loopOf d)) due₀ (due-within s accepted f₀ going₀)
+
+  pub due-same : (dueIn p e err r w .«t_acc» ≡ r .«t_acc») × (dueIn p e err r w .symbols ≡ r .symbols)
+  due-same = (sym (ap (λ (d : Registers). d .«t_acc») due₀) ∙ due-time p f₀, sym (ap (λ (d : Registers). d .symbols) due₀) ∙ due-symbols p f₀)
+
+  -- a block can go on from what a symbol leaves
+  pub sounded-good : ltZ (r .«t_acc») one ≡ true → goodState p (bare (sounded (dueIn p e err r w)) (placed w)) ≡ true
+  unfolding withSymbol goodState
+  sounded-good t =
+      let soon : time f₀ < 16777216 = ltb-true (time f₀) 16777216 (sym (ap (λ (z : ℤ). ltZ z one) (going₀ .whole)) ∙ t) in
+      subst (λ (d : Registers). goodState p (bare (sounded d) (placed w)) ≡ true) due₀ (good p (withSymbol s f₀) (sounded-going s accepted f₀ soon going₀))
+
+  module _ (f : Frontend) (stands : Stands (p .taps) i q e err r w f) where
+    stands-due : due p f ≡ dueIn p e err r w
+    unfolding due
+    stands-due =
+        let found : getD (f .pending) (f .oldest) noPending ≡ record { e = getD e (w .oldest) (pos 0); err = getD err (w .oldest) (pos 0) } =
+        ap (λ (n : ℕ). getD (f .pending) n noPending) (stands .oldest) ∙ stands .queue .each (w .oldest) (omega (arith, ready-going .oldest)) in
+        rw (stands .waiting, stands .registers, found) refl
+
+    -- the symbol of what a block keeps is the state's
+    pub stands-symbol : (phase : ℕ) → phase ≡ natAbs (r .«t_acc») / 2 ^ 18
+        → symbolFrom p (dueIn p e err r w) (w .samples) phase (filtered s phase (f .line) (w .head)) ≡ symbolOf s f
+    unfolding symbolOf
+    stands-symbol phase at = rw (at, stands-due, stands .registers, stands .samples, stands .head) refl
+
+    -- a symbol
+    pub stands-sounded : (y : Symbol) → y ≡ symbolOf s f
+        → Stands (p .taps) i q (set e ((w .oldest + w .waiting) % 24) (y .e)) (set err ((w .oldest + w .waiting) % 24) (y .err)) (sounded (dueIn p e err r w)) (placed w) (withSymbol s f)
+    unfolding withSymbol
+    stands-sounded y is =
+        let at : ℕ = (w .oldest + w .waiting) % 24 in
+        record {
+          line = stands .line;
+          queue =
+              subst (Queued (set e at (y .e)) (set err at (y .err)))
+              (λ t. set (f .pending) ((sym (stands .oldest) t + sym (stands .waiting) t) % 24) (record { e = is t .e; err = is t .err }))
+              (queued-set at (record { e = y .e; err = y .err }) (omega arith) (stands .queue));
+          registers = ap sounded stands-due;
+          head = stands .head;
+          oldest = rw (stands .oldest, stands .waiting) refl;
+          waiting = rw (stands .waiting) refl;
+          samples = ap (λ (n : ℕ). n + 1) (stands .samples);
+        }
+
+    -- no symbol
+    pub stands-silent : Stands (p .taps) i q e err (silent r) (passed w) (withoutSymbol f)
+    unfolding withoutSymbol
+    stands-silent = record {
+      line = stands .line;
+      queue = stands .queue;
+      registers = ap silent (stands .registers);
+      head = stands .head;
+      oldest = stands .oldest;
+      waiting = stands .waiting;
+      samples = ap (λ (n : ℕ). n + 1) (stands .samples);
+    }
+
+  pub silent-good : ltZ (r .«t_acc») one ≡ false → goodState p (bare (silent r) (passed w)) ≡ true
+  unfolding withoutSymbol goodState
+  silent-good t =
+      let late : 16777216 ≤ time f₀ = ltb-false (time f₀) 16777216 (sym (ap (λ (z : ℤ). ltZ z one) (going₀ .whole)) ∙ t) in
+      good p (withoutSymbol f₀) (silent-going s accepted f₀ late going₀)
+
+-- ---- a sample joins
+
+-- The registers once a sample was mixed, and the positions once it joined the line.
+abbrev pub turnedOn : Params → Registers → Registers
+turnedOn p r = record { nco = turned p (r .nco); «t_acc» = r .«t_acc»; v = r .v; period = r .period; «gain_acc» = r .«gain_acc»; symbols = r .symbols }
+
+abbrev pub movedTo : ℕ → Position → Position
+movedTo head w = record { head = head; oldest = w .oldest; waiting = w .waiting; samples = w .samples }
+
+module _ (p : Params) (h g k : List ℤ) (i q : List ℕ) (e err : List ℤ) (r : Registers) (w : Position) (ready : Ready p h g k i q e err r w) where
+  abbrev head : ℕ
+  head = nextHead (p .taps) (w .head)
+
+  -- the sample's place lies within the line
+  pub head-fits : (head < p .taps) × (p .taps ≤ 64)
+  head-fits = (head-below (p .taps) (w .head) (ready-going p h g k i q e err r w ready .head), accepted p h g k i q e err r w ready .lengths .good .most)
+
+  pub ready-joined : (x y : ℕ)
+      → Ready p h g k (set (set i head x) (head + p .taps) x) (set (set q head y) (head + p .taps) y) e err (turnedOn p r) (movedTo head w)
+  unfolding joined
+  ready-joined x y = record {
+    accepted = ready .accepted;
+    good =
+        good p (bare (turnedOn p r) (movedTo head w)) (record {
+          head = head-fits .0;
+          whole = ready-going p h g k i q e err r w ready .whole;
+          soon = ready-going p h g k i q e err r w ready .soon;
+          loop = ready-going p h g k i q e err r w ready .loop;
+          waiting = ready-going p h g k i q e err r w ready .waiting;
+          oldest = ready-going p h g k i q e err r w ready .oldest;
+          few = ready-going p h g k i q e err r w ready .few;
+        });
+    room = ready .room;
+    long-i = length-set (set i head x) (head + p .taps) x ∙ length-set i head x ∙ ready .long-i;
+    long-q = length-set (set q head y) (head + p .taps) y ∙ length-set q head y ∙ ready .long-q;
+    long-e = ready .long-e;
+    long-err = ready .long-err;
+  }
+
+  pub stands-joined : (f : Frontend) → Stands (p .taps) i q e err r w f → (a : Pair) (x y : ℕ) → lowered x ≡ mixed (r .nco) a .i → lowered y ≡ mixed (r .nco) a .q
+      → Stands (p .taps) (set (set i head x) (head + p .taps) x) (set (set q head y) (head + p .taps) y) e err (turnedOn p r) (movedTo head w) (joined (sheetOf p h g k) f a)
+  unfolding joined
+  stands-joined f stands a x y ex ey = record {
+    line = rw (stands .head, stands .registers) (laid-joined head x y (mixed (r .nco) a) ex ey (head-fits .0) (head-fits .1) (stands .line));
+    queue = stands .queue;
+    registers = ap (turnedOn p) (stands .registers);
+    head = ap (nextHead (p .taps)) (stands .head);
+    oldest = stands .oldest;
+    waiting = stands .waiting;
+    samples = stands .samples;
+  }
