@@ -91,6 +91,15 @@ pub record Tuned (p : Params) (h g k : List ℤ) (i q : List ℕ) (r : Registers
   pub long-i : length i ≡ 128
   pub long-q : length q ≡ 128
 
+-- A sheet that is accepted, a state that a block can go on from, and arrays at their sizes.
+pub record Begun (p : Params) (h g k : List ℤ) (i q : List ℕ) (e err : List ℤ) (r : Registers) (w : Position) : Type 0 where
+  pub accepted : judged (sheetOf p h g k) ≡ nothing
+  pub good : goodState p (bare r w) ≡ true
+  pub long-i : length i ≡ 128
+  pub long-q : length q ≡ 128
+  pub long-e : length e ≡ 24
+  pub long-err : length err ≡ 24
+
 -- A sheet that is accepted, a state that a block can go on from with room for one sample more, and arrays at their sizes.
 pub record Ready (p : Params) (h g k : List ℤ) (i q : List ℕ) (e err : List ℤ) (r : Registers) (w : Position) : Type 0 where
   pub accepted : judged (sheetOf p h g k) ≡ nothing

@@ -22,7 +22,7 @@ ghost use Rattle.fixed.specs.Start.{noPair, noPending};
 ghost use Rattle.fixed.specs.Symbol.{placesOf};
 ghost use Rattle.fixed.specs.Sample.{after, emitted};
 ghost use Rattle.fixed.specs.Block.{goodState, pairsOf, flattened};
-ghost use Rattle.fixed.specs.Inside.{lowered, Laid, Queued, bare, Stands, Ready};
+ghost use Rattle.fixed.specs.Inside.{lowered, Laid, Queued, bare, Stands, Begun};
 
 // 9: whether a block can go on from these registers and positions.
 pub(crate) fn is_good_state(p: Params, r: Registers, w: Position) -> bool
@@ -197,7 +197,7 @@ pub(crate) fn run(
     r: Registers,
     w: Position,
 ) -> Ran
-    requires { ⌜ Ready p (now h) (now g) (now k) (now i) (now q) (now e) (now err) r w ⌝ }
+    requires { ⌜ Begun p (now h) (now g) (now k) (now i) (now q) (now e) (now err) r w ⌝ }
     requires { ⌜ (20 * (length (now values) / 2) ≤ length (now out)) × (w .samples + length (now values) / 2 ≤ 9223372036854775807) ⌝ }
     ensures { λ s. ⌜ ((f : Frontend) → Stands (p .taps) (now (i .entry)) (now (q .entry)) (now (e .entry)) (now (err .entry)) r w f → (s .count ≡ length (emitted (sheetOf p (now (h .entry)) (now (g .entry)) (now (k .entry))) f (pairsOf (now (values .entry))))) × (now (out .exit) ≡ flattened (emitted (sheetOf p (now (h .entry)) (now (g .entry)) (now (k .entry))) f (pairsOf (now (values .entry)))) ++ drop (20 * s .count) (now (out .entry)))) ⌝ }
     ensures { λ s. ⌜ ((f : Frontend) → Stands (p .taps) (now (i .entry)) (now (q .entry)) (now (e .entry)) (now (err .entry)) r w f → Stands (p .taps) (now (i .exit)) (now (q .exit)) (now (e .exit)) (now (err .exit)) (s .registers) (s .position) (after (sheetOf p (now (h .entry)) (now (g .entry)) (now (k .entry))) f (pairsOf (now (values .entry))))) ⌝ }
