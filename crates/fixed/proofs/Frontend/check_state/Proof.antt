@@ -6,11 +6,14 @@ use mathlib.Core.List.{[]}
 use borrow.Author.Needs.{needs}
 use borrow.Author.Tests.{not-true, not-false}
 use Rattle.params.specs.Refusal.{refusal}
-use Rattle.params.specs.Judge.{sheetOf, unless, firstOf}
+use Rattle.params.specs.Judge.{Sheet, sheetOf, unless, firstOf}
 use Rattle.fixed.specs.Block.{stateFaults}
 use Rattle.fixed.proofs.Verdicts.{sheet-passes, sheet-refuses, state-answer, bare-good}
 use Rattle.fixed.proofs.Frontend.check_state.Statement.{statement}
 use Rattle.fixed.proofs.Frontend.check_state.Tie as tie
+
+abbrev sheet : tie.Start → Sheet
+sheet s = sheetOf (s .args .p) (s .args .h .now) (s .args .g .now) (s .args .k .now)
 
 validate-requires : tie.Need-validate-requires
 validate-requires c κs = search needs
@@ -19,7 +22,7 @@ enum-known-verdict : tie.Need-enum-known-verdict
 enum-known-verdict c = search needs
 
 returns : tie.Need-returns
-returns c = let v = c .before .before .before in sheet-refuses _ _ (v .validate .ensures) (c .before .verdict .given .1)
+returns c = let v = c .before .before .before in sheet-refuses (sheet (v .before)) _ (v .validate .ensures) (c .before .verdict .given .1)
 
 enum-told : tie.Need-enum-told
 enum-told c = search needs
@@ -32,13 +35,12 @@ is-good-state-requires c κs = search needs
 
 -- an accepted sheet: the answer by what the test came to
 tested : (c : tie.After-is-good-state) {b : Bool} → c .is-good-state .result ≡ b
-    → let a = c .before .before .before .before .before .before .args in
-      firstOf (unless b (refusal 9 [])) ≡ firstOf (stateFaults (sheetOf (a .p) (a .h .now) (a .g .now) (a .k .now)) (a .self))
+    → let s = c .before .before .before .before .before .before in firstOf (unless b (refusal 9 [])) ≡ firstOf (stateFaults (sheet s) (s .args .self))
 tested c e =
     let v = c .before .before .before .before .before in
     let a = v .before .args in
-    state-answer (sheetOf (a .p) (a .h .now) (a .g .now) (a .k .now)) (a .self)
-    (sheet-passes _ (v .validate .ensures) (c .before .before .before .enum-told .given .1))
+    state-answer (sheet (v .before)) (a .self)
+    (sheet-passes (sheet (v .before)) (v .validate .ensures) (c .before .before .before .enum-told .given .1))
     (sym (bare-good (a .p) (a .self) (c .before .position .ensures)) ∙ sym (c .is-good-state .ensures) ∙ e)
 
 returns-2 : tie.Need-returns-2
