@@ -11,3 +11,4 @@ pub mod Filling
 pub mod RowSums
 pub mod Centre
 pub mod Verdicts
+pub mod Unpacked

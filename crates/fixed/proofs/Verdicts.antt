@@ -1,24 +1,26 @@
 -- What a call on a state answers, and what its answer tells of the faults. The faults of a sheet, of a state and of a block's sizes are looked for in this order,
 -- each has a number other than 0, and so an answer of "accepted" says that there is none.
-use Prim.Native.Nat.{ℕ, _+_, _*_, _/_, _%_, _≤_, _<_}
+use Prim.Native.Nat.{ℕ, _+_, _*_, _/_, _≤_, _<_}
 use mathlib.Core.Path.{_≡_, sym, ap, _∙_, subst}
 use mathlib.Core.Logic.{inl, inr}
 use mathlib.Core.Bool.{Bool, true, false}
 use mathlib.Core.List.{List, [], _∷_, _++_, flatten}
 use native.Mathlib.Omega.{arith}
-use lib.Dec.{eqb, leb, lit<}
+use lib.Dec.{eqb, lit<}
 use lib.ListN.{length}
 use lib.IntN.{ℤ}
 use types.Run.{OneOf}
 use denote.Enum.Declared.{tagOf}
-use borrow.Author.Tests.{leb-true, eqb-true, ne-eqb}
+use borrow.Author.Tests.{leb-true, ne-eqb}
 use Rattle.params.specs.declared.Params.{Params as Fields}
 use Rattle.params.specs.declared.ParamError.{ParamError}
 use Rattle.params.specs.declared.Verdict.{Verdict}
 use Rattle.params.specs.declared.Verdict.the-variants.{Accepted as SheetAccepted, Refused}
 use Rattle.params.specs.Refusal.{Refusal, refusal, nothing, errorRefusal, verdictRefusal}
 use Rattle.params.specs.Judge.{Sheet, unless, firstOf, faults, judged}
-use Rattle.params.proofs.Faults.{Numbered, numbered-append, numbered-unless, first-none, first-append, kept, none-at, none-left, none-right, error-numbered, refused, faults-numbered}
+use Rattle.params.proofs.Faults.{Numbered, numbered-append, numbered-unless, first-none, none-first, first-append, error-numbered, refused, faults-numbered}
+use Rattle.params.proofs.Faults.{kept, none-at, none-left, none-right}
+use Rattle.params.proofs.Accepted.{Accepted as AcceptedSheet, no-faults}
 use Rattle.fixed.specs.declared.Frontend.{Frontend}
 use Rattle.fixed.specs.declared.Position.{Position}
 use Rattle.fixed.specs.declared.FrontendVerdict.{FrontendVerdict}
@@ -116,16 +118,33 @@ sizes-answer s f values out none e = e ∙ sym (first-rest (stateFaults s f) _ n
 pub state-good : (s : Sheet) (f : Frontend) → stateFaults s f ≡ [] → goodState (s .params) f ≡ true
 state-good s f e = kept (goodState (s .params) f) (refusal 9 []) (none-right (faults s) _ e)
 
--- what a block asks of its sizes
+-- the places for its symbols that a block asks for, and the samples that can still be counted
 pub record Sized (f : Frontend) (values places : ℕ) : Type 0 where
-  pub pairs : values % 2 ≡ 0
   pub long : 20 * (values / 2) ≤ places
   pub few : f .samples + values / 2 ≤ 9223372036854775807
 
 pub sized : (f : Frontend) (values places : ℕ) → sizeFaults f values places ≡ [] → Sized f values places
 unfolding sizeFaults
 sized f values places e = record {
-  pairs = eqb-true (values % 2) 0 (kept _ _ (none-at _ e 0));
   long = leb-true (20 * (values / 2)) places (kept _ _ (none-at _ e 1));
   few = leb-true (f .samples + values / 2) 9223372036854775807 (kept _ _ (none-at _ e 2));
 }
+
+-- what a block without any fault has
+pub record Faultless (s : Sheet) (f : Frontend) (values places : ℕ) : Type 0 where
+  pub judged-so : judged s ≡ nothing
+  pub sheet : AcceptedSheet s
+  pub good : goodState (s .params) f ≡ true
+  pub sizes : Sized f values places
+
+pub faultless : (s : Sheet) (f : Frontend) (values out : List ℤ) → blockFaults s f values out ≡ [] → Faultless s f (length values) (length out)
+unfolding blockFaults judged
+faultless s f values out e =
+    let state : stateFaults s f ≡ [] = none-left (stateFaults s f) _ e in
+    let sheet : faults s ≡ [] = none-left (faults s) _ state in
+    record {
+      judged-so = none-first (faults s) sheet;
+      sheet = no-faults s sheet;
+      good = state-good s f state;
+      sizes = sized f (length values) (length out) (none-right (stateFaults s f) _ e);
+    }

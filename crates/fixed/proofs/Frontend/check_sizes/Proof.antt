@@ -1,6 +1,6 @@
 -- `fixed::Frontend::check_sizes` meets its contract: it makes the definition's three tests in the same order.
 -- Places counted in symbols and samples by what is left of them say the same as the definition's products and sums.
-use Prim.Native.Nat.{ℕ, _+_, _*_, _/_, _%_, _≤_, _<_}
+use Prim.Native.Nat.{ℕ, _+_, _*_, _/_, _%_}
 use mathlib.Core.Path.{_≡_}
 use mathlib.Core.List.{List, [], _∷_}
 use native.Mathlib.Omega.{arith}

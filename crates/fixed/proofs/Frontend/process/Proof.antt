@@ -1,7 +1,7 @@
 -- `fixed::Frontend::process` meets its contract: a block that has no fault is run, and any other is refused with the state as it was given.
 -- A refusal's number is never 0, so the definition takes the same arm as the code.
 use Prim.Native.Nat.{_<_}
-use mathlib.Core.Path.{_≡_, _∙_}
+use mathlib.Core.Path.{_≡_}
 use mathlib.Core.List.{List, []}
 use lib.IntN.{ℤ}
 use borrow.Author.Needs.{needs}
