@@ -11,3 +11,5 @@ pub mod Filling
 pub mod RowSums
 pub mod Centre
 pub mod Kept
+pub mod Verdicts
+pub mod Unpacked
