@@ -109,6 +109,14 @@ v-small p l f w = go (f .integrator .0) (f .integrator .1) (f .integrator .2)
 
 -- ---- registers and positions
 
+-- equal queues, registers and positions stand for the same state
+pub same-stands : {taps : ℕ} {i q : List ℕ} {e e′ err err′ : List ℤ} {r r′ : Registers} {w w′ : Position} {f : Frontend} → e ≡ e′ → err ≡ err′ → r ≡ r′ → w ≡ w′
+    → Stands taps i q e err r w f → Stands taps i q e′ err′ r′ w′ f
+same-stands {taps} {i} {q} {e} {e′} {err} {err′} {r} {r′} {w} {w′} {f} at-e at-err at-r at-w stands =
+    subst (λ (x : Position). Stands taps i q e′ err′ r′ x f) at-w
+    (subst (λ (x : Registers). Stands taps i q e′ err′ x w f) at-r
+    (subst (λ (x : List ℤ). Stands taps i q e′ x r w f) at-err (subst (λ (x : List ℤ). Stands taps i q x err r w f) at-e stands)))
+
 -- The registers as a symbol finds them, of what a block keeps.
 abbrev pub dueIn : Params → List ℤ → List ℤ → Registers → Position → Registers
 dueIn p e err r w = cond (eqb (w .waiting) 24) (corrected p r (record { e = getD e (w .oldest) (pos 0); err = getD err (w .oldest) (pos 0) })) r
