@@ -224,7 +224,7 @@ stands-after c f stands =
     let after = withSymbol (sheetOf (a .p) (a .h .now) (a .g .now) (a .k .now)) f in
     let whole =
     stands-sounded (a .p) (a .h .now) (a .g .now) (a .k .now) (a .i .now) (a .q .now) (a .e .now) (a .err .now) (a .r) (a .w) (b .pre .0) f stands (y .symbol-at .result) (symbol-is c f stands) in
-    same-stands (sym (queue-is q .0)) (sym (queue-is q .1)) (sym (left-is d)) (sym (c .after-symbol .ensures)) whole
+    same-stands refl refl (sym (queue-is q .0)) (sym (queue-is q .1)) (sym (left-is d)) (sym (c .after-symbol .ensures)) whole
 
 returns : tie.Need-returns
 returns c =
