@@ -10,3 +10,4 @@ pub mod Widths
 pub mod Filling
 pub mod RowSums
 pub mod Centre
+pub mod Windows
