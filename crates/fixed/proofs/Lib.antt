@@ -13,3 +13,4 @@ pub mod Centre
 pub mod Kept
 pub mod Verdicts
 pub mod Unpacked
+pub mod Windows
