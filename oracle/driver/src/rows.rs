@@ -1,5 +1,5 @@
 //! Rows of calls, as crates/replay_calls reads them. A row begins with what it is: 0 the fields of a sheet, 1 to 3 its
-//! banks h, g and k, 7 sample values, each in force until it is written again; and the calls with their answers:
+//! banks h, g and k, 6 a state, 7 sample values, each in force until it is written again; and the calls with their answers:
 //! 4 judging, 5 the offset of a period, 8 starting, 10 a block with 11 its output, 12 reading, 9 the state in force.
 
 use crate::reading::{Block, Read};
@@ -54,6 +54,10 @@ impl<'a, W: Write> Rows<'a, W> {
 
     pub fn offset(&mut self, period: u32, (parts, number): (i64, i64)) -> io::Result<()> {
         writeln!(self.output, "5,{period},{parts},{number}")
+    }
+
+    pub fn give(&mut self, state: &State) -> io::Result<()> {
+        self.row(6, &joined(&state.numbers()))
     }
 
     pub fn values(&mut self, values: &[i16]) -> io::Result<()> {
