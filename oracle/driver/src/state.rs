@@ -48,6 +48,7 @@ impl State {
         let text = whole(&text);
         let number = |name| value(text, name).parse().expect("a number");
         let symbols: i128 = number("symbols");
+        let waiting = pairs(text, "pending");
         let mut state = Self {
             nco: number("nco"),
             t_acc: number("t_acc"),
@@ -57,15 +58,14 @@ impl State {
             symbols,
             head: number("head"),
             oldest: if symbols > 24 { symbols % 24 } else { 0 },
-            waiting: symbols.min(24),
+            waiting: waiting.len() as i128,
             samples: number("samples"),
             ..Self::zeros()
         };
         for (place, pair) in state.line.iter_mut().zip(pairs(text, "line")) {
             *place = pair;
         }
-        let waiting = pairs(text, "pending");
-        for (j, errors) in (symbols - waiting.len() as i128..).zip(waiting) {
+        for (j, errors) in (symbols - state.waiting..).zip(waiting) {
             state.errors[(j % 24) as usize] = errors;
         }
         state
