@@ -109,6 +109,23 @@ v-small p l f w = go (f .integrator .0) (f .integrator .1) (f .integrator .2)
 
 -- ---- registers and positions
 
+-- equal arrays, registers and positions stand for the same state, and are as ready
+pub same-stands : {taps : ℕ} {i i′ q q′ : List ℕ} {e e′ err err′ : List ℤ} {r r′ : Registers} {w w′ : Position} {f : Frontend}
+    → i ≡ i′ → q ≡ q′ → e ≡ e′ → err ≡ err′ → r ≡ r′ → w ≡ w′ → Stands taps i q e err r w f → Stands taps i′ q′ e′ err′ r′ w′ f
+same-stands {taps} {i} {i′} {q} {q′} {e} {e′} {err} {err′} {r} {r′} {w} {w′} {f} at-i at-q at-e at-err at-r at-w stands =
+    subst (λ (x : Position). Stands taps i′ q′ e′ err′ r′ x f) at-w
+    (subst (λ (x : Registers). Stands taps i′ q′ e′ err′ x w f) at-r
+    (subst (λ (x : List ℤ). Stands taps i′ q′ e′ x r w f) at-err
+    (subst (λ (x : List ℤ). Stands taps i′ q′ x err r w f) at-e
+    (subst (λ (x : List ℕ). Stands taps i′ x e err r w f) at-q (subst (λ (x : List ℕ). Stands taps x q e err r w f) at-i stands)))))
+
+pub same-ready : {p : Params} {h g k : List ℤ} {i i′ q q′ : List ℕ} {e err : List ℤ} {r r′ : Registers} {w w′ : Position}
+    → i ≡ i′ → q ≡ q′ → r ≡ r′ → w ≡ w′ → Ready p h g k i q e err r w → Ready p h g k i′ q′ e err r′ w′
+same-ready {p} {h} {g} {k} {i} {i′} {q} {q′} {e} {err} {r} {r′} {w} {w′} at-i at-q at-r at-w ready =
+    subst (λ (x : Position). Ready p h g k i′ q′ e err r′ x) at-w
+    (subst (λ (x : Registers). Ready p h g k i′ q′ e err x w) at-r
+    (subst (λ (x : List ℕ). Ready p h g k i′ x e err r w) at-q (subst (λ (x : List ℕ). Ready p h g k x q e err r w) at-i ready)))
+
 -- The registers as a symbol finds them, of what a block keeps.
 abbrev pub dueIn : Params → List ℤ → List ℤ → Registers → Position → Registers
 dueIn p e err r w = cond (eqb (w .waiting) 24) (corrected p r (record { e = getD e (w .oldest) (pos 0); err = getD err (w .oldest) (pos 0) })) r
@@ -289,3 +306,22 @@ module _ (p : Params) (h g k : List ℤ) (i q : List ℕ) (e err : List ℤ) (r 
     waiting = stands .waiting;
     samples = stands .samples;
   }
+
+-- ---- with a symbol or without
+
+pub next-sounded : (s : Sheet) (f : Frontend) (a : Pair) → falls f ≡ true → withSymbol s (joined s f a) ≡ next s f a
+unfolding next
+next-sounded s f a e = ap (λ (b : Bool). cond b (withSymbol s (joined s f a)) (withoutSymbol (joined s f a))) (sym e)
+
+pub next-silent : (s : Sheet) (f : Frontend) (a : Pair) → falls f ≡ false → withoutSymbol (joined s f a) ≡ next s f a
+unfolding next
+next-silent s f a e = ap (λ (b : Bool). cond b (withSymbol s (joined s f a)) (withoutSymbol (joined s f a))) (sym e)
+
+pub made-sounded : (s : Sheet) (f : Frontend) (a : Pair) (made : Bool) (y : Symbol) → falls f ≡ true → made ≡ true → y ≡ symbolOf s (joined s f a) → madeBy s f a ≡ cond made (y ∷ []) []
+unfolding madeBy
+made-sounded s f a made y e m is =
+    ap (λ (b : Bool). cond b (symbolOf s (joined s f a) ∷ []) []) e ∙ ap (λ (x : Symbol). x ∷ []) (sym is) ∙ ap (λ (b : Bool). cond b (y ∷ []) []) (sym m)
+
+pub made-silent : (s : Sheet) (f : Frontend) (a : Pair) (made : Bool) (y : Symbol) → falls f ≡ false → made ≡ false → madeBy s f a ≡ cond made (y ∷ []) []
+unfolding madeBy
+made-silent s f a made y e m = ap (λ (b : Bool). cond b (symbolOf s (joined s f a) ∷ []) []) e ∙ ap (λ (b : Bool). cond b (y ∷ []) []) (sym m)

@@ -1,26 +1,33 @@
 -- `fixed::sample::with_symbol` meets its contract: time and counts of a state that a block can go on from leave room for a symbol more.
 -- What it does to registers, positions and queue is what the definition does to the state that they stand for (Kept).
-use Prim.Native.Nat.{ℕ, _+_, _-_, _/_, _≤_, _<_}
+use Prim.Native.Nat.{ℕ, _+_, _-_, _/_, _%_, _≤_, _<_}
 use mathlib.Core.Path.{_≡_, refl, sym, ap, subst, _∙_}
+use mathlib.Core.Bool.{true}
 use native.Mathlib.Omega.{arith}
 use lib.Dec.{T}
+use lib.ListN.{set}
 use lib.IntN.{ℤ, pos, natAbs, _+ℤ_, _-ℤ_}
 use lib.Signed.{nonNeg, ltZ, shrZ}
-use mir.Syntax.{w64}
+use mir.Syntax.{w32, w64}
 use mir.Val.{Fits, SFits, toZ, ofZ}
 use mir.Facts.{toZ-ofZ, toZ-pos}
 use borrow.Author.Needs.{needs}
 use borrow.Author.Tests.{ltb-true}
-use Rattle.arith.proofs.Bits.{sfit, back}
+use Rattle.arith.proofs.Bits.{sfit, back, held}
 use Rattle.params.specs.Judge.{sheetOf}
 use Rattle.params.proofs.Accepted.{Accepted}
 use Rattle.fixed.specs.declared.Registers.{Registers}
-use Rattle.fixed.specs.Sample.{one}
-use Rattle.fixed.specs.Inside.{bare}
+use Rattle.fixed.specs.Sample.{one, withSymbol}
+use Rattle.fixed.specs.declared.Position.{Position}
+use Rattle.fixed.specs.declared.Frontend.{Frontend}
+use Rattle.fixed.specs.Filter.{filtered}
+use Rattle.fixed.specs.Symbol.{symbolFrom, symbolOf}
+use Rattle.fixed.specs.Block.{goodState}
+use Rattle.fixed.specs.Inside.{bare, Stands}
 use Rattle.fixed.proofs.Widths.{in64}
 use Rattle.fixed.proofs.Loops.{loopOf, Within}
 use Rattle.fixed.proofs.States.{time, minus-nat, Going}
-use Rattle.fixed.proofs.Kept.{dueIn, sounded, placed, accepted, ready-going, v-small, due-small, due-same, sounded-good, stands-symbol, stands-sounded}
+use Rattle.fixed.proofs.Kept.{dueIn, sounded, placed, accepted, ready-going, v-small, due-small, due-same, sounded-good, stands-symbol, stands-sounded, same-stands}
 use Rattle.fixed.proofs.sample.with_symbol.Statement.{statement}
 use Rattle.fixed.proofs.sample.with_symbol.Tie as tie
 
@@ -119,21 +126,23 @@ cast-phase c =
 
 due-requires : tie.Need-due-requires
 due-requires c κs =
-    let b = c .before .before .before .before .before .before in
-    ((b .pre .0 .long-e, b .pre .0 .long-err),
-    (omega (arith, going-at b .oldest), v-small (b .args .p) (loopOf (b .args .r)) (accepted-at b .fields) (going-at b .loop)))
+    let b = c .before .before .before .before .before .before in (
+      (b .pre .0 .long-e, b .pre .0 .long-err),
+      (omega (arith, going-at b .oldest), v-small (b .args .p) (loopOf (b .args .r)) (accepted-at b .fields) (going-at b .loop)),
+    )
 
 symbol-at-requires : tie.Need-symbol-at-requires
 symbol-at-requires c κs =
-    let b = c .before .before .before .before .before .before .before in
-    (record {
-      accepted = b .pre .0 .accepted;
-      head = going-at b .head;
-      gain = due-loop c .gain;
-      long-i = b .pre .0 .long-i;
-      long-q = b .pre .0 .long-q;
-    },
-    subst (λ (z : ℤ). natAbs z < 64) (sym (phase-is (b .args .r .«t_acc») _ (going-at b .whole) (soon b))) (omega (arith, soon b)))
+    let b = c .before .before .before .before .before .before .before in (
+      record {
+        accepted = b .pre .0 .accepted;
+        head = going-at b .head;
+        gain = due-loop c .gain;
+        long-i = b .pre .0 .long-i;
+        long-q = b .pre .0 .long-q;
+      },
+      subst (λ (z : ℤ). natAbs z < 64) (sym (phase-is (b .args .r .«t_acc») _ (going-at b .whole) (soon b))) (omega (arith, soon b)),
+    )
 
 queue-requires : tie.Need-queue-requires
 queue-requires c κs =
@@ -169,6 +178,57 @@ same-length c = search needs
 same-length-2 : tie.Need-same-length-2
 same-length-2 c = search needs
 
+-- the symbol is that of any state that the arrays stand for
+symbol-is : (c : tie.After-after-symbol)
+    → let d = c .before .before .before .before .before .before .before .before .before .before .before .before .before .before in
+    let a = b d .args in
+    (f : Frontend) → Stands (a .p .taps) (a .i .now) (a .q .now) (a .e .now) (a .err .now) (a .r) (a .w) f
+    → c .before .before .before .before .before .before .before .before .before .before .before .before .before .symbol-at .result
+    ≡ symbolOf (sheetOf (a .p) (a .h .now) (a .g .now) (a .k .now)) f
+symbol-is c f stands =
+    let y = c .before .before .before .before .before .before .before .before .before .before .before .before .before in
+    let d = y .before in
+    let b = b d in
+    let a = b .args in
+    let s = sheetOf (a .p) (a .h .now) (a .g .now) (a .k .now) in
+    let phase = natAbs (in64 (shrZ (in64 (a .r .«t_acc»)) 262144)) in
+    let at = ap natAbs (phase-is (a .r .«t_acc») _ (going-at b .whole) (soon b)) in
+    y .symbol-at .ensures .1 (f .line) (stands .line) ∙ ap (λ (x : Registers). symbolFrom (a .p) x (a .w .samples) phase (filtered s phase (f .line) (a .w .head))) (due-is d)
+    ∙ stands-symbol (a .p) (a .h .now) (a .g .now) (a .k .now) (a .i .now) (a .q .now) (a .e .now) (a .err .now) (a .r) (a .w) (b .pre .0) f stands phase at
+
+-- the queue with the symbol's errors
+queue-is : (c : tie.After-queue)
+    → let a = b (c .before .before .before .before .before .before) .args in
+    let y = c .before .before .before .before .before .symbol-at .result in
+    let at = (a .w .oldest + a .w .waiting) % 24 in
+    (c .queue .last .0 ≡ set (a .e .now) at (y .e)) × (c .queue .last .1 .0 ≡ set (a .err .now) at (y .err))
+queue-is c =
+    let a = b (c .before .before .before .before .before .before) .args in
+    let y = c .before .before .before .before .before .symbol-at .result in
+    let at = (a .w .oldest + a .w .waiting) % 24 in (
+      c .queue .ensures .0 ∙ ap (set (a .e .now) at) (held w32 (y .e) (c .before .before .struct-told2 .given .1 .1 .1 .1 .1 .1 .1 .1 .1 .1 .1 .0 .1)),
+      c .queue .ensures .1 ∙ ap (set (a .err .now) at) (held w32 (y .err) (c .before .struct-told3 .given .1 .1 .1 .1 .1 .1 .1 .1 .1 .1 .1 .1 .0 .1)),
+    )
+
+-- what is kept after the symbol stands for the state after it
+stands-after : (c : tie.After-after-symbol)
+    → let q = c .before .before .before .before .before .before .before .before in
+    let d = q .before .before .before .before .before .before in
+    let a = b d .args in
+    (f : Frontend) → Stands (a .p .taps) (a .i .now) (a .q .now) (a .e .now) (a .err .now) (a .r) (a .w) f
+    → Stands (a .p .taps) (a .i .now) (a .q .now) (q .queue .last .0) (q .queue .last .1 .0) (left d) (c .after-symbol .result)
+    (withSymbol (sheetOf (a .p) (a .h .now) (a .g .now) (a .k .now)) f)
+stands-after c f stands =
+    let q = c .before .before .before .before .before .before .before .before in
+    let y = q .before .before .before .before .before in
+    let d = y .before in
+    let b = b d in
+    let a = b .args in
+    let after = withSymbol (sheetOf (a .p) (a .h .now) (a .g .now) (a .k .now)) f in
+    let whole =
+    stands-sounded (a .p) (a .h .now) (a .g .now) (a .k .now) (a .i .now) (a .q .now) (a .e .now) (a .err .now) (a .r) (a .w) (b .pre .0) f stands (y .symbol-at .result) (symbol-is c f stands) in
+    same-stands refl refl (sym (queue-is q .0)) (sym (queue-is q .1)) (sym (left-is d)) (sym (c .after-symbol .ensures)) whole
+
 returns : tie.Need-returns
 returns c =
     let d = c .before .before .before .before .before .before .before .before .before .before .before .before .before .before in
@@ -176,11 +236,17 @@ returns c =
     let b = b d in
     let a = b .args in
     let good =
-    sounded-good (a .p) (a .h .now) (a .g .now) (a .k .now) (a .i .now) (a .q .now) (a .e .now) (a .err .now) (a .r) (a .w) (b .pre .0) (b .pre .1) in
-    ((refl, y .symbol-at .ensures .0),
-    (λ i. ?, ?),
-    ?,
-    ?)
+    sounded-good (a .p) (a .h .now) (a .g .now) (a .k .now) (a .i .now) (a .q .now) (a .e .now) (a .err .now) (a .r) (a .w) (b .pre .0) (b .pre .1) in (
+      (refl, y .symbol-at .ensures .0),
+      (
+        (
+          subst (λ (x : Registers). goodState (a .p) (bare x (c .after-symbol .result)) ≡ true) (sym (left-is d))
+              (subst (λ (x : Position). goodState (a .p) (bare (sounded (found d)) x) ≡ true) (sym (c .after-symbol .ensures)) good),
+          ap (λ (x : Position). x .samples) (c .after-symbol .ensures),
+        ),
+        (symbol-is c, stands-after c),
+      ),
+    )
 
 pub with-symbol-spec : {M : Type 1} → statement M
 with-symbol-spec =
