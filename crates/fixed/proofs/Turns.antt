@@ -5,7 +5,7 @@ use mathlib.Core.Path.{_≡_, refl, sym, ap, subst, _∙_}
 use mathlib.Core.Bool.{Bool, true, false, cond}
 use mathlib.Core.List.{List, [], _∷_, _++_, append-assoc, append-nil}
 use native.Mathlib.Omega.{arith}
-use lib.ListN.{length, getD, take, drop, length-append, length-drop}
+use lib.ListN.{length, getD, take, drop, length-append}
 use lib.Seq.{take-all, take-suc, take-at, drop-append-add, drop-drop}
 use lib.IntN.{ℤ, pos}
 use Rattle.params.specs.declared.Params.{Params}
@@ -20,7 +20,7 @@ use Rattle.fixed.specs.Symbol.{placesOf}
 use Rattle.fixed.specs.Sample.{next, madeBy, after, emitted}
 use Rattle.fixed.specs.Block.{goodState, pairsOf, flattened}
 use Rattle.fixed.specs.Inside.{bare, Stands, Begun, Ready}
-use Rattle.fixed.proofs.Runs.{after-append, emitted-append, flattened-append, length-places, length-flattened}
+use Rattle.fixed.proofs.Runs.{after-append, emitted-append, flattened-append, length-flattened}
 
 -- ---- the values as pairs
 

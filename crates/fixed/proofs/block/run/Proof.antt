@@ -1,6 +1,6 @@
 -- `fixed::block::run` meets its contract: each turn reads one pair, pushes it and writes its symbol, and keeps what holds of the turns before (Turns).
 -- After the last turn all pairs are taken, and what holds is the contract.
-use Prim.Native.Nat.{ℕ, _+_, _-_, _*_, _/_, _≤_, _<_}
+use Prim.Native.Nat.{_+_, _-_, _*_, _/_, _<_}
 use mathlib.Core.Path.{_≡_, sym, subst, _∙_}
 use mathlib.Core.List.{List}
 use native.Mathlib.Omega.{arith}

@@ -1,19 +1,18 @@
 -- `fixed::sample::push` meets its contract: what is kept once the sample was mixed and joined stands for the state with the sample joined (Kept).
 -- The test that decides whether a symbol is made is the one on the state, since the time is the state's.
-use Prim.Native.Nat.{ℕ, _+_, _^_, _≤_, _<_}
+use Prim.Native.Nat.{ℕ, _+_, _≤_, _<_}
 use mathlib.Core.Path.{_≡_, refl, sym, ap, subst, _∙_}
 use mathlib.Core.Bool.{Bool, true, false, true≢false}
 use mathlib.Core.List.{List}
 use native.Mathlib.Omega.{arith}
-use lib.ListN.{length, set, length-set}
-use lib.IntN.{ℤ, pos, natAbs}
+use lib.ListN.{set}
+use lib.IntN.{ℤ}
 use lib.Signed.{ltZ}
-use mir.Syntax.{w16, w32, w64}
+use mir.Syntax.{w32, w64}
 use mir.Facts.{toZ-ofZ}
 use borrow.Author.Needs.{needs}
 use Rattle.arith.proofs.Bits.{back, held}
 use Rattle.params.specs.Judge.{Sheet, sheetOf}
-use Rattle.params.proofs.Accepted.{Accepted}
 use Rattle.fixed.specs.declared.Pair.{Pair}
 use Rattle.fixed.specs.declared.Registers.{Registers}
 use Rattle.fixed.specs.declared.Position.{Position}

@@ -9,8 +9,8 @@ use lib.ListN.{set}
 use lib.IntN.{ℤ, pos, natAbs, _+ℤ_, _-ℤ_}
 use lib.Signed.{nonNeg, ltZ, shrZ}
 use mir.Syntax.{w32, w64}
-use mir.Val.{Fits, SFits, toZ, ofZ}
-use mir.Facts.{toZ-ofZ, toZ-pos}
+use mir.Val.{Fits, SFits, toZ}
+use mir.Facts.{toZ-pos}
 use borrow.Author.Needs.{needs}
 use borrow.Author.Tests.{ltb-true}
 use Rattle.arith.proofs.Bits.{sfit, back, held}
@@ -26,8 +26,8 @@ use Rattle.fixed.specs.Block.{goodState}
 use Rattle.fixed.specs.Inside.{bare, Stands}
 use Rattle.fixed.proofs.Widths.{in64}
 use Rattle.fixed.proofs.Loops.{loopOf, Within}
-use Rattle.fixed.proofs.States.{time, minus-nat, Going}
-use Rattle.fixed.proofs.Kept.{dueIn, sounded, placed, accepted, ready-going, v-small, due-small, due-same, sounded-good, stands-symbol, stands-sounded, same-stands}
+use Rattle.fixed.proofs.States.{minus-nat, Going}
+use Rattle.fixed.proofs.Kept.{dueIn, sounded, accepted, ready-going, v-small, due-small, due-same, sounded-good, stands-symbol, stands-sounded, same-stands}
 use Rattle.fixed.proofs.sample.with_symbol.Statement.{statement}
 use Rattle.fixed.proofs.sample.with_symbol.Tie as tie
 
