@@ -1,11 +1,7 @@
--- What holds of runs, and of lists of block calls.
+-- The laws that the proofs of the functions cite, by subject; those on runs, on the loop and on states serve the theorem on lists of block calls too (crates/timing).
 pub mod Runs
-pub mod Calls
 pub mod Loops
 pub mod States
-pub mod Invariant
-pub mod Timing
-pub mod GoOn
 pub mod Widths
 pub mod Filling
 pub mod RowSums

@@ -1,12 +1,8 @@
--- The loop over a run: its integrator, period and gain are what the errors of earlier symbols, one after the other, make of the first ones.
--- However many errors there were, each of the three stays within its clamp, since every step ends in it.
-use Prim.Native.Nat.{ℕ, zero, suc, _+_, _*_, _≤_, _<_}
-use mathlib.Core.Path.{_≡_, refl, ap}
+-- The loop's registers: its integrator, period and gain, as errors move them. Each of the three stays within its clamp, since every step ends in it.
+use Prim.Native.Nat.{ℕ, _*_, _≤_}
+use mathlib.Core.Path.{_≡_, refl}
 use mathlib.Core.Bool.{true}
-use mathlib.Core.List.{List, [], _∷_, _++_}
 use native.Mathlib.Omega.{arith}
-use lib.ListN.{length, getD, take}
-use lib.Seq.{take-suc}
 use lib.IntN.{ℤ, pos, negℤ}
 use lib.Signed.{leZ}
 use Rattle.arith.proofs.Order.{Between, clamp-between, between-nat, neg-P, neg-N, pn-le}
@@ -14,46 +10,7 @@ use Rattle.params.specs.declared.Params.{Params}
 use Rattle.params.proofs.Accepted.{GoodPeriods, GoodFields}
 use Rattle.fixed.specs.declared.Pending.{Pending}
 use Rattle.fixed.specs.declared.Registers.{Registers}
-use Rattle.fixed.specs.declared.Symbol.{Symbol}
 use Rattle.fixed.specs.Loop.{held, integratorEnd, nextV, nextPeriod, nextGain, corrected}
-
--- ---- what a run's symbols leave: their periods' sum, and their errors
-
-unfoldable pub total : List Symbol → ℕ
-total [] = 0
-total (y ∷ ys) = y .period + total ys
-
-abbrev pub errorsOf : Symbol → Pending
-errorsOf y = record { e = y .e; err = y .err }
-
-unfoldable pub errors : List Symbol → List Pending
-errors [] = []
-errors (y ∷ ys) = errorsOf y ∷ errors ys
-
-pub total-append : (a b : List Symbol) → total (a ++ b) ≡ total a + total b
-unfolding total
-total-append [] b = omega arith
-total-append (y ∷ a) b = omega (arith, total-append a b)
-
-pub total-suc : (ys : List Symbol) (k : ℕ) (d : Symbol) → k < length ys → total (take (suc k) ys) ≡ total (take k ys) + getD ys k d .period
-unfolding total
-total-suc ys k d h = rw (take-suc ys k d h) (omega (arith, total-append (take k ys) (getD ys k d ∷ [])))
-
-pub errors-append : (a b : List Symbol) → errors (a ++ b) ≡ errors a ++ errors b
-unfolding errors
-errors-append [] b = refl
-errors-append (y ∷ a) b = ap (λ (l : List Pending). errorsOf y ∷ l) (errors-append a b)
-
-pub length-errors : (a : List Symbol) → length (errors a) ≡ length a
-unfolding errors
-length-errors [] = refl
-length-errors (y ∷ a) = ap suc (length-errors a)
-
-pub errors-take : (n : ℕ) (ys : List Symbol) → errors (take n ys) ≡ take n (errors ys)
-unfolding errors
-errors-take zero ys = refl
-errors-take (suc n) [] = refl
-errors-take (suc n) (y ∷ ys) = ap (λ (l : List Pending). errorsOf y ∷ l) (errors-take n ys)
 
 -- ---- the three registers that errors move
 
@@ -72,19 +29,6 @@ pub corrected-moves : (p : Params) (r : Registers) (w : Pending) → loopOf (cor
 unfolding corrected moved
 corrected-moves p r w = refl
 
--- by one error after the other, from the fresh ones
-unfoldable pub movedBy : Params → Loop → List Pending → Loop
-movedBy p l [] = l
-movedBy p l (w ∷ ws) = movedBy p (moved p l w) ws
-
-abbrev pub freshLoop : Params → Loop
-freshLoop p = record { v = pos 0; period = p .«period_nominal»; gain = p .«agc_init» }
-
-pub movedBy-snoc : (p : Params) (l : Loop) (ws : List Pending) (w : Pending) → movedBy p l (ws ++ (w ∷ [])) ≡ moved p (movedBy p l ws) w
-unfolding movedBy
-movedBy-snoc p l [] w = refl
-movedBy-snoc p l (x ∷ ws) w = movedBy-snoc p (moved p l x) ws w
-
 -- ---- they stay within their clamps
 
 pub record Within (p : Params) (l : Loop) : Type 0 where
@@ -95,7 +39,7 @@ pub record Within (p : Params) (l : Loop) : Type 0 where
 
 module _ (p : Params) (k : GoodPeriods p) (f : GoodFields p) where
   -- the integrator's end is not below zero
-  end-whole : (n : ℕ) → p .«integrator_max» ≡ pos n → Between (negℤ (integratorEnd p)) (integratorEnd p) (pos 0) × (leZ (negℤ (integratorEnd p)) (integratorEnd p) ≡ true)
+  pub end-whole : (n : ℕ) → p .«integrator_max» ≡ pos n → Between (negℤ (integratorEnd p)) (integratorEnd p) (pos 0) × (leZ (negℤ (integratorEnd p)) (integratorEnd p) ≡ true)
   end-whole n e =
       let top : ℤ = pos (n * 65536) in
       let neg = negℤ top in
@@ -103,14 +47,6 @@ module _ (p : Params) (k : GoodPeriods p) (f : GoodFields p) where
 
   held-within : (z : ℤ) (lo hi : ℕ) → lo ≤ hi → (lo ≤ held z lo hi) × (held z lo hi ≤ hi)
   held-within z lo hi h = between-nat lo hi _ (clamp-between z (pos lo) (pos hi) (pn-le (pos lo) (pos hi) (omega arith)))
-
-  fresh-within : Within p (freshLoop p)
-  fresh-within = record {
-    v = end-whole (f .integrator .0) (f .integrator .1) .0;
-    low = k .low;
-    high = k .high;
-    gain = f .agc-init;
-  }
 
   pub moved-within : (l : Loop) (w : Pending) → Within p (moved p l w)
   unfolding moved nextV nextPeriod nextGain
@@ -122,11 +58,3 @@ module _ (p : Params) (k : GoodPeriods p) (f : GoodFields p) where
         high = period .1;
         gain = held-within _ 0 16777215 (omega arith) .1;
       }
-
-  pub movedBy-within : (l : Loop) (ws : List Pending) → Within p l → Within p (movedBy p l ws)
-  unfolding movedBy
-  movedBy-within l [] i = i
-  movedBy-within l (w ∷ ws) i = movedBy-within (moved p l w) ws (moved-within l w)
-
-  pub loop-within : (ws : List Pending) → Within p (movedBy p (freshLoop p) ws)
-  loop-within ws = movedBy-within (freshLoop p) ws fresh-within

@@ -12,16 +12,16 @@ use borrow.Author.Tests.{eqb-true}
 use Rattle.params.specs.Refusal.{Refusal, refusal}
 use Rattle.params.specs.Judge.{Sheet, unless, firstOf, faults}
 use Rattle.params.proofs.Accepted.{Accepted, judged-none, no-faults}
 use Rattle.fixed.specs.declared.Frontend.{Frontend}
 use Rattle.fixed.specs.declared.Symbol.{Symbol}
 use Rattle.fixed.specs.Start.{startOf}
 use Rattle.fixed.specs.Loop.{loopDelay}
 use Rattle.fixed.specs.Block.{goodState, stateFaults, sizeFaults, blockFaults, accepted, blockOf}
-use Rattle.fixed.specs.Lists.{Call, answer, endState}
-use Rattle.fixed.specs.Timing.{StatesGoOn}
+use Rattle.timing.specs.Lists.{Call, answer, endState}
+use Rattle.timing.specs.Timing.{StatesGoOn}
 use Rattle.fixed.proofs.States.{Going, good}
-use Rattle.fixed.proofs.Invariant.{Inv, loopAt-within}
-use Rattle.fixed.proofs.Timing.{ends-inv}
+use Rattle.timing.proofs.Invariant.{Inv, loopAt-within}
+use Rattle.timing.proofs.Timing.{ends-inv}
 
 -- a state that a run has led to
 going : (s : Sheet) (a : Accepted s) (f : Frontend) (S : List Symbol) → Inv s f S → Going (s .params) f

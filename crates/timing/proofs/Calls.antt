@@ -8,13 +8,13 @@ use lib.Dec.{eqb}
 use lib.ListN.{length, take, drop, length-append}
 use lib.Seq.{take-at}
 use Rattle.params.specs.Judge.{Sheet, firstOf}
 use Rattle.fixed.specs.declared.Pair.{Pair}
 use Rattle.fixed.specs.declared.Frontend.{Frontend}
 use Rattle.fixed.specs.declared.Symbol.{Symbol}
 use Rattle.fixed.specs.Sample.{after, emitted}
 use Rattle.fixed.specs.Block.{blockFaults, pairsOf, flattened, accepted, blockOf}
-use Rattle.fixed.specs.Lists.{Call, answer, stateAfter, takenBy, taken, written, counted}
+use Rattle.timing.specs.Lists.{Call, answer, stateAfter, takenBy, taken, written, counted}
 use Rattle.fixed.proofs.Runs.{after-append, emitted-append, flattened-append, length-flattened}
 
 module _ (s : Sheet) where
   abbrev number : Frontend → Call → ℕ

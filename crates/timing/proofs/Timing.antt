@@ -15,23 +15,24 @@ use lib.Signed.{_≤ℤ_}
 use Rattle.params.specs.Refusal.{Refusal, nothing}
 use Rattle.params.specs.Judge.{Sheet}
 use Rattle.params.proofs.Accepted.{Accepted, judged-none, no-faults}
 use Rattle.fixed.specs.declared.Pair.{Pair}
 use Rattle.fixed.specs.declared.Frontend.{Frontend}
 use Rattle.fixed.specs.declared.Output.{Output}
 use Rattle.fixed.specs.declared.Symbol.{Symbol}
 use Rattle.fixed.specs.Start.{noPair, atRest, fresh, startOf}
 use Rattle.fixed.specs.Filter.{sumTo}
 use Rattle.fixed.specs.Loop.{loopDelay}
 use Rattle.fixed.specs.Symbol.{placesOf}
 use Rattle.fixed.specs.Sample.{after, emitted}
 use Rattle.fixed.specs.Block.{flattened}
-use Rattle.fixed.specs.Lists.{Call, first, samplesOf, endState, placesWritten, symbolCount}
-use Rattle.fixed.specs.Timing.{placeAt, sampleAt, phaseAt, gainAt, periodAt, periodsBefore, Whole, Place, Apart, Rest, AgreeUpTo, Delayed, SameRun, TimingHolds}
+use Rattle.timing.specs.Lists.{Call, first, samplesOf, endState, placesWritten, symbolCount}
+use Rattle.timing.specs.Timing.{placeAt, sampleAt, phaseAt, gainAt, periodAt, periodsBefore, Whole, Place, Apart, Rest, AgreeUpTo, Delayed, SameRun, TimingHolds}
 use Rattle.fixed.proofs.Runs.{emitted-append, length-flattened, place-flattened}
-use Rattle.fixed.proofs.Calls.{calls-state, calls-written, calls-counted}
-use Rattle.fixed.proofs.Loops.{total, total-append, total-suc, errors, errors-take, Loop, movedBy, freshLoop}
+use Rattle.timing.proofs.Calls.{calls-state, calls-written, calls-counted}
+use Rattle.fixed.proofs.Loops.{Loop}
+use Rattle.timing.proofs.Errors.{total, total-append, total-suc, errors, errors-take, movedBy, freshLoop}
 use Rattle.fixed.proofs.States.{time}
-use Rattle.fixed.proofs.Invariant.{loopAt, Inv, Placed, each-at, fresh-inv, loopAt-within, run-inv, run-placed, run-samples}
+use Rattle.timing.proofs.Invariant.{loopAt, Inv, Placed, each-at, fresh-inv, loopAt-within, run-inv, run-placed, run-samples}
 
 abbrev noOutput : Output
 noOutput = record { i = pos 0; q = pos 0 }

@@ -10,10 +10,10 @@ use lib.IntN.{ℤ, pos, _+ℤ_, _*ℤ_}
 use lib.Signed.{shrZ, _≤ℤ_}
 use Rattle.params.specs.Refusal.{nothing}
 use Rattle.params.specs.Judge.{Sheet}
 use Rattle.fixed.specs.declared.Pair.{Pair}
 use Rattle.fixed.specs.Start.{noPair, startOf}
 use Rattle.fixed.specs.Filter.{sumTo}
-use Rattle.fixed.specs.Lists.{Call, answer, endState, samplesOf, placesWritten, symbolCount}
+use Rattle.timing.specs.Lists.{Call, answer, endState, samplesOf, placesWritten, symbolCount}
 
 -- ---- of the places that were written
 

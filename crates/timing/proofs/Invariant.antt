@@ -15,17 +15,18 @@ use borrow.Author.Tests.{ltb-true, ltb-false, eqb-true, eqb-false}
 use Rattle.params.specs.declared.Params.{Params}
 use Rattle.params.specs.Judge.{Sheet}
 use Rattle.params.proofs.Accepted.{Accepted}
 use Rattle.fixed.specs.declared.Pair.{Pair}
 use Rattle.fixed.specs.declared.Pending.{Pending}
 use Rattle.fixed.specs.declared.Registers.{Registers}
 use Rattle.fixed.specs.declared.Frontend.{Frontend}
 use Rattle.fixed.specs.declared.Symbol.{Symbol}
 use Rattle.fixed.specs.Start.{noPending, fresh}
 use Rattle.fixed.specs.Loop.{loopDelay}
 use Rattle.fixed.specs.Symbol.{due, symbolFrom, symbolOf}
 use Rattle.fixed.specs.Sample.{one, joined, withSymbol, withoutSymbol, falls, next, madeBy, after, emitted}
 use Rattle.fixed.proofs.States.{time, minus-nat, head-below, due-time, due-symbols}
-use Rattle.fixed.proofs.Loops.{total, total-append, errors, errorsOf, errors-append, length-errors, Loop, loopOf, corrected-moves, movedBy, movedBy-snoc, freshLoop, Within, loop-within}
+use Rattle.fixed.proofs.Loops.{Loop, loopOf, corrected-moves, Within}
+use Rattle.timing.proofs.Errors.{total, total-append, errors, errorsOf, errors-append, length-errors, movedBy, movedBy-snoc, freshLoop, loop-within}
 
 module _ (s : Sheet) where
   -- the loop after the errors of all but the newest `late` of the symbols S
