@@ -38,18 +38,34 @@ count() { # NAME COMPARED DIFFERED
     compared=$((compared + $2)) differed=$((differed + $3))
 }
 
+# What the driver writes goes through a replay program. Where one of the two fails, fewer answers were compared than should be, so nothing counts.
+replayed() { # NAME PROGRAM WORDS-FOR-THE-DRIVER
+    name=$1 program=$2
+    shift 2
+    rm -f "$work/failed"
+    line=$({ $checked "$@" || : >"$work/failed"; } | "target/bin/$program") || : >"$work/failed"
+    [ ! -e "$work/failed" ] || { echo "oracle: $name: 'oracle $*' or $program failed"; exit 1; }
+    count "$name" "${line%% *}" "$(echo "$line" | sed 's/.*compared, \([0-9]*\) differ.*/\1/')"
+}
+
 # The leaves: the whole cosine wheel and random calls of the arithmetic.
-seed=1
-while [ $seed -le 3 ]; do
-    line=$($checked leaves $seed $((1000000 * SCALE)) | target/bin/replay_leaves)
-    count "leaves, seed $seed" "${line%% *}" "$(echo "$line" | sed 's/.*compared, \([0-9]*\) differ.*/\1/')"
-    seed=$((seed + 1))
+for seed in 1 2 3; do
+    replayed "leaves, seed $seed" replay_leaves leaves $seed $((1000000 * SCALE))
 done
 
 # Judging and the offset: sheets that were designed, at the ends of every range, and with faults next to every boundary.
 for kind in designed extreme refused mixed; do
-    line=$($checked calls $kind 1 $((6000 * SCALE)) | target/bin/replay_calls)
-    count "judging and offsets, $kind sheets" "${line%% *}" "$(echo "$line" | sed 's/.*compared, \([0-9]*\) differ.*/\1/')"
+    replayed "judging and offsets, $kind sheets" replay_calls calls $kind 1 $((6000 * SCALE))
+done
+
+# The path: runs from a fresh start in blocks of all sizes, 1.3 million symbols in all. The driver also holds each answer of isdb-rs against its own reading.
+for kind in designed extreme mixed; do
+    replayed "starting, blocks and readings, $kind sheets" replay_calls path $kind 1 $((700 * SCALE))
+done
+
+# States that no run reaches, good ones and broken ones, 100,000 in all, with a short block or two and a reading for each.
+for kind in extreme mixed; do
+    replayed "blocks and readings of any state, $kind sheets" replay_calls states $kind 1 $((50000 * SCALE))
 done
 
 # The Rust's two builds against each other: where they differ an overflow wrapped, and its answers are no measure.

@@ -1,7 +1,6 @@
 -- Products of sums. That a product with a sum is the sum of the products holds by counting one of the summands up from 0 and down from 0; the other laws follow from it.
-use Prim.Native.Nat.{ℕ}
-use mathlib.Core.Path.{_≡_, refl, sym, ap, _∙_}
-use lib.IntN.{ℤ, pos, negℤ, _+ℤ_, _-ℤ_, _*ℤ_, sucℤ, predℤ, ℤ-ind, +ℤ-one, -ℤ-one, +ℤ-idr, +ℤ-assoc, +ℤ-comm, +ℤ-invr, -ℤ-+ℤ-cancel, +ℤ-negℤ-cancel, zero-*ℤ, sucℤ-*ℤ, predℤ-*ℤ, *ℤ-comm}
+use mathlib.Core.Path.{_≡_, sym, ap, _∙_}
+use lib.IntN.{ℤ, pos, negℤ, _+ℤ_, _-ℤ_, _*ℤ_, ℤ-ind, +ℤ-one, -ℤ-one, +ℤ-idr, +ℤ-assoc, -ℤ-+ℤ-cancel, +ℤ-negℤ-cancel, zero-*ℤ, sucℤ-*ℤ, predℤ-*ℤ, *ℤ-comm}
 
 -- one more, or one less, in a sum that is multiplied
 up : (a b k : ℤ) → (a +ℤ b) *ℤ k ≡ a *ℤ k +ℤ b *ℤ k → (a +ℤ (b +ℤ pos 1)) *ℤ k ≡ a *ℤ k +ℤ (b +ℤ pos 1) *ℤ k

@@ -2,16 +2,14 @@
 use Prim.Native.Nat.{ℕ, zero, suc, _+_, _-_, _/_, _≤_, _<_, min}
 use mathlib.Core.Path.{_≡_, refl, sym, ap, _∙_}
 use mathlib.Core.Bool.{true}
-use mathlib.Core.List.{List, _++_}
+use mathlib.Core.List.{List}
 use native.Mathlib.Omega.{arith}
-use lib.Dec.{eqb}
-use lib.ListN.{length, getD, take, drop, length-take, length-drop, take-append-drop}
+use lib.ListN.{length, getD, take, drop, length-drop, take-append-drop}
 use lib.Seq.{length-take-le, getD-take, getD-drop}
 use lib.IntN.{ℤ, pos, negsuc, natAbs, _+ℤ_, _*ℤ_, zero-*ℤ, +ℤ-idl, +ℤ-idr}
 use borrow.Author.Tests.{eqb-true}
 use Rattle.params.specs.Judge.{magnitudes, zeroOutside}
 use Rattle.params.proofs.Rows.{magnitudes-append, centred}
-use Rattle.fixed.specs.declared.Sums.{Sums}
 use Rattle.fixed.specs.Filter.{sumTo}
 use Rattle.fixed.specs.Inside.{lowered, sumOver, sumsOver, Row, DetectorRow}
 use Rattle.fixed.proofs.RowSums.{sum-same, mag-each}

@@ -1,16 +1,14 @@
 -- A list of block calls never meets refusal 9. The invariant of runs gives each test that a block makes of a state: the registers stay within their clamps, the positions
 -- within the line and the queue, and there is at most one symbol a sample. So only what a call brings itself, 10 to 12, can refuse it.
-use Prim.Native.Nat.{ℕ, _+_, _*_, _/_, _%_, _≤_, min}
+use Prim.Native.Nat.{ℕ, _+_, _*_, _/_, _%_, _≤_}
 use mathlib.Core.Path.{_≡_, refl, sym, ap, _∙_, subst}
 use mathlib.Core.Logic.{_⊎_, inl, inr}
-use mathlib.Core.Bool.{Bool, true, false, _&&_}
-use mathlib.Core.List.{List, [], _∷_, _++_, flatten}
+use mathlib.Core.Bool.{Bool, true, false}
+use mathlib.Core.List.{List, [], _++_, flatten}
 use native.Mathlib.Omega.{arith}
 use lib.Dec.{eqb, leb}
 use lib.ListN.{length}
-use lib.IntN.{ℤ, pos}
-use lib.Signed.{leZ, ltZ}
-use borrow.Author.Tests.{lt-ltb, le-leb, eq-eqb, eqb-true}
+use borrow.Author.Tests.{eqb-true}
 use Rattle.params.specs.Refusal.{Refusal, refusal}
 use Rattle.params.specs.Judge.{Sheet, unless, firstOf, faults}
 use Rattle.params.proofs.Accepted.{Accepted, judged-none, no-faults}
@@ -21,8 +19,7 @@ use Rattle.fixed.specs.Loop.{loopDelay}
 use Rattle.fixed.specs.Block.{goodState, stateFaults, sizeFaults, blockFaults, accepted, blockOf}
 use Rattle.fixed.specs.Lists.{Call, answer, endState}
 use Rattle.fixed.specs.Timing.{StatesGoOn}
-use Rattle.fixed.proofs.Loops.{loopOf, Within}
-use Rattle.fixed.proofs.States.{time, Going, good}
+use Rattle.fixed.proofs.States.{Going, good}
 use Rattle.fixed.proofs.Invariant.{Inv, loopAt-within}
 use Rattle.fixed.proofs.Timing.{ends-inv}
 

@@ -12,7 +12,6 @@ use lib.Seq.{take-suc, take-append-le, getD-at, getD-set-same, getD-set-other}
 use lib.IntN.{ℤ, pos, natAbs, _+ℤ_, _-ℤ_}
 use lib.Signed.{ltZ}
 use borrow.Author.Tests.{ltb-true, ltb-false, eqb-true, eqb-false}
-use Rattle.arith.proofs.Order.{eq-pn, minus-pn}
 use Rattle.params.specs.declared.Params.{Params}
 use Rattle.params.specs.Judge.{Sheet}
 use Rattle.params.proofs.Accepted.{Accepted}
@@ -22,8 +21,7 @@ use Rattle.fixed.specs.declared.Registers.{Registers}
 use Rattle.fixed.specs.declared.Frontend.{Frontend}
 use Rattle.fixed.specs.declared.Symbol.{Symbol}
 use Rattle.fixed.specs.Start.{noPending, fresh}
-use Rattle.fixed.specs.Line.{nextHead}
-use Rattle.fixed.specs.Loop.{loopDelay, corrected}
+use Rattle.fixed.specs.Loop.{loopDelay}
 use Rattle.fixed.specs.Symbol.{due, symbolFrom, symbolOf}
 use Rattle.fixed.specs.Sample.{one, joined, withSymbol, withoutSymbol, falls, next, madeBy, after, emitted}
 use Rattle.fixed.proofs.States.{time, minus-nat, head-below, due-time, due-symbols}

@@ -9,7 +9,7 @@ use lib.Dec.{eqb}
 use lib.ListN.{length, getD, set, replicate, length-set}
 use lib.Seq.{getD-set-same, getD-set-other}
 use lib.IntN.{ℤ, pos, negsuc, negℤ, natAbs, _+ℤ_, _-ℤ_}
-use lib.Signed.{leZ, ltZ, shrZ}
+use lib.Signed.{leZ, ltZ}
 use borrow.Author.Tests.{ltb-true, ltb-false, eqb-true, eqb-false}
 use Rattle.arith.proofs.Order.{neg-P, neg-N, le-pn}
 use Rattle.params.specs.declared.Params.{Params}
@@ -25,13 +25,13 @@ use Rattle.fixed.specs.Start.{noPair, noPending}
 use Rattle.fixed.specs.Mix.{mixed, turned}
 use Rattle.fixed.specs.Line.{nextHead}
 use Rattle.fixed.specs.Filter.{filtered}
-use Rattle.fixed.specs.Loop.{loopDelay, integratorEnd, corrected}
+use Rattle.fixed.specs.Loop.{integratorEnd, corrected}
 use Rattle.fixed.specs.Symbol.{due, symbolFrom, symbolOf}
 use Rattle.fixed.specs.Sample.{one, joined, withSymbol, withoutSymbol, falls, next, madeBy}
 use Rattle.fixed.specs.Block.{goodState}
 use Rattle.fixed.specs.Inside.{lowered, Twice, Laid, Queued, bare, Stands, Ready}
 use Rattle.fixed.proofs.Loops.{Loop, loopOf, Within}
-use Rattle.fixed.proofs.States.{time, head-below, due-time, due-symbols, Going, going, good, due-within, joined-going, silent-going, sounded-going}
+use Rattle.fixed.proofs.States.{time, head-below, due-time, due-symbols, Going, going, good, due-within, silent-going, sounded-going}
 
 -- ---- the line
 

@@ -11,6 +11,7 @@ pub mod Filling
 pub mod RowSums
 pub mod Centre
 pub mod Kept
+pub mod Turns
 pub mod Verdicts
 pub mod Unpacked
 pub mod Windows

@@ -1,20 +1,20 @@
 -- The sum of a row over the line, built up coefficient by coefficient. A sum of products is linear in each factor, so what the raising of the line's numbers, or of the coefficients, adds
 -- to it is a sum of its own; and each partial sum is bounded by the magnitudes so far.
-use Prim.Native.Nat.{ℕ, zero, suc, _+_, _*_, _^_, _≤_, _<_}
-use mathlib.Core.Path.{_≡_, refl, sym, ap, _∙_, subst}
-use mathlib.Core.List.{List, [], _∷_, _++_}
+use Prim.Native.Nat.{ℕ, zero, suc, _+_, _*_, _≤_, _<_}
+use mathlib.Core.Path.{_≡_, refl, sym, ap, _∙_}
+use mathlib.Core.List.{List}
 use native.Mathlib.Nat.{le-refl, mul-le-mul}
 use native.Mathlib.Numerals.{add-one}
 use native.Mathlib.Omega.{arith}
 use lib.ListN.{length, getD, take, drop, take-append-drop}
 use lib.IntN.{ℤ, pos, negsuc, natAbs, _+ℤ_, _-ℤ_, _*ℤ_, zero-*ℤ, *ℤ-comm, +ℤ-negℤ-cancel}
 use Rattle.arith.proofs.Magnitude.{abs-add, abs-mul}
-use Rattle.arith.proofs.Order.{P, N, abs-pn, add-pn, minus-pn, eq-pn, nat-pn}
+use Rattle.arith.proofs.Order.{P, N, abs-pn, add-pn, minus-pn, eq-pn}
 use Rattle.arith.proofs.Products.{add-mul, mul-minus}
 use Rattle.params.specs.Judge.{magnitudes}
 use Rattle.params.proofs.Rows.{magnitudes-append, magnitudes-suc}
 use Rattle.fixed.specs.Filter.{sumTo}
-use Rattle.fixed.specs.Inside.{lowered, sumOver}
+use Rattle.fixed.specs.Inside.{sumOver}
 
 -- ---- sums
 

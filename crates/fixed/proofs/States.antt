@@ -1,6 +1,6 @@
 -- States that a block can go on from, in general and not only from a fresh start: what refusal 9 tests, as facts, and that each sample keeps it.
 -- The loop's registers are held by clamps, the time goes down by a sample and up by a period of one to four, and a symbol adds one to the count beside a sample's one.
-use Prim.Native.Nat.{ℕ, zero, suc, _+_, _-_, _%_, _≤_, _<_, min}
+use Prim.Native.Nat.{ℕ, _+_, _-_, _%_, _≤_, _<_, min}
 use mathlib.Core.Path.{_≡_, refl, sym, ap, _∙_, subst}
 use mathlib.Core.Bool.{Bool, true, false, cond, _&&_}
 use mathlib.Core.List.{List, [], _∷_}
@@ -10,7 +10,7 @@ use lib.ListN.{getD}
 use lib.IntN.{ℤ, pos, negsuc, negℤ, natAbs, _+ℤ_, _-ℤ_}
 use lib.Signed.{leZ, ltZ}
 use borrow.Author.Tests.{ltb-true, ltb-false, leb-true, eqb-true, eqb-false, lt-ltb, le-leb, eq-eqb}
-use Rattle.arith.proofs.Order.{eq-pn, minus-pn, Between}
+use Rattle.arith.proofs.Order.{eq-pn, minus-pn}
 use Rattle.params.specs.declared.Params.{Params}
 use Rattle.params.specs.Judge.{Sheet, within}
 use Rattle.params.proofs.Rows.{and-left, and-right}

@@ -1,72 +1,37 @@
-//! Whole calls with their answers, as crates/replay_calls reads them. A row begins with what it is: 0 the fields of the
-//! sheet, 1 to 3 its banks h, g and k, 4 what judging it answers, 5 the offset of a period.
-//!
-//! A part of a sheet that is still in force is not written again.
+//! Judging and the offset: sheets with what both answer.
 
 use crate::generate;
 use crate::random::Random;
-use crate::reading;
-use crate::sheet::{Sheet, joined};
+use crate::reading::Reading;
+use crate::rows::Rows;
+use crate::sheet::Sheet;
 use std::io::{self, Write};
 
 /// Sheets of a kind with every eighth a new one, and those between the last new one with faults.
 pub fn write(kind: &str, seed: u64, count: u64, output: &mut impl Write) -> io::Result<()> {
     let mut r = Random::new(seed);
-    let mut writer = Writer {
-        output,
-        in_force: Default::default(),
-    };
+    let mut rows = Rows::new(output);
     let mut base = Sheet::default();
     for n in 0..count {
         if n % 8 == 0 {
             base = generate::sheet(kind, &mut r)?;
-            writer.calls(&base, &mut r)?;
+            calls(&mut rows, &base, &mut r)?;
         } else {
-            writer.calls(&generate::spoiled(&mut r, base.clone()), &mut r)?;
+            calls(&mut rows, &generate::spoiled(&mut r, base.clone()), &mut r)?;
         }
     }
     Ok(())
 }
 
-struct Writer<'a, W> {
-    output: &'a mut W,
-    /// The rows 0 to 3 that were written last.
-    in_force: [String; 4],
-}
-
-impl<W: Write> Writer<'_, W> {
-    fn calls(&mut self, sheet: &Sheet, r: &mut Random) -> io::Result<()> {
-        self.part(0, joined(&sheet.fields()))?;
-        for (n, bank) in sheet.banks.iter().enumerate() {
-            self.part(n + 1, joined(bank))?;
-        }
-        let answer = sheet.judge();
-        let answer = if answer.is_empty() { vec![0] } else { answer };
-        writeln!(self.output, "4,{}", joined(&answer))?;
-        for _ in 0..3 {
-            self.offset(sheet, period(r, sheet))?;
-        }
-        Ok(())
+fn calls(rows: &mut Rows<impl Write>, sheet: &Sheet, r: &mut Random) -> io::Result<()> {
+    let reading = Reading::of(sheet);
+    rows.sheet(sheet)?;
+    rows.judged(reading.refusal())?;
+    for _ in 0..3 {
+        let period = period(r, sheet);
+        rows.offset(period, reading.offset(period))?;
     }
-
-    /// A row of the sheet; an empty bank's has its own number alone.
-    fn part(&mut self, kind: usize, numbers: String) -> io::Result<()> {
-        if self.in_force[kind] == numbers {
-            return Ok(());
-        }
-        let comma = if numbers.is_empty() { "" } else { "," };
-        writeln!(self.output, "{kind}{comma}{numbers}")?;
-        self.in_force[kind] = numbers;
-        Ok(())
-    }
-
-    fn offset(&mut self, sheet: &Sheet, period: u32) -> io::Result<()> {
-        let (number, parts) = match reading::offset(sheet, period) {
-            Ok(parts) => (0, parts),
-            Err(number) => (number, 0),
-        };
-        writeln!(self.output, "5,{period},{parts},{number}")
-    }
+    Ok(())
 }
 
 /// A period at a bound, next to one, next to the nominal one, or anywhere.

@@ -21,12 +21,7 @@ pub fn sheets(kind: &str, seed: u64, count: u64, output: &mut impl Write) -> io:
 }
 
 pub fn sheet(kind: &str, r: &mut Random) -> io::Result<Sheet> {
-    let kind = if kind == "mixed" {
-        r.pick(&["designed", "extreme", "refused"])
-    } else {
-        kind
-    };
-    match kind {
+    match one_kind(kind, r) {
         "designed" => Ok(designed(r).0),
         "extreme" => Ok(extreme(r)),
         "small" => {
@@ -38,15 +33,34 @@ pub fn sheet(kind: &str, r: &mut Random) -> io::Result<Sheet> {
     }
 }
 
+/// The kind itself, or one of those that are mixed.
+fn one_kind<'a>(kind: &'a str, r: &mut Random) -> &'a str {
+    match kind {
+        "mixed" => r.pick(&["designed", "extreme", "refused"]),
+        _ => kind,
+    }
+}
+
+/// A sheet with samples to run it on: a signal of its design where it has one, noise of the full range else, and for a
+/// quarter of the designed ones too.
+pub fn sheet_with_samples(kind: &str, r: &mut Random) -> io::Result<(Sheet, Samples)> {
+    match one_kind(kind, r) {
+        "designed" if !r.one_in(4) => Ok(designed_with_signal(r)),
+        kind => Ok((sheet(kind, r)?, Samples::noise())),
+    }
+}
+
+fn designed_with_signal(r: &mut Random) -> (Sheet, Samples) {
+    let (sheet, d) = designed(r);
+    (sheet, Samples::signal(r, &d))
+}
+
 /// A sheet, its banks and pairs, as the symbol program reads them.
 pub fn recording(kind: &str, seed: u64, pairs: u64, output: &mut impl Write) -> io::Result<()> {
     let mut r = Random::new(seed);
     let (sheet, mut samples) = match kind {
-        "designed" => {
-            let (sheet, d) = designed(&mut r);
-            (sheet, Samples::signal(&mut r, &d))
-        }
-        "extreme" => (extreme(&mut r), Samples::noise(&mut r)),
+        "designed" => designed_with_signal(&mut r),
+        "extreme" => (extreme(&mut r), Samples::noise()),
         _ => return Err(usage(&format!("{kind} is no kind of recording"))),
     };
     writeln!(output, "{}", joined(&sheet.fields()))?;
@@ -200,7 +214,7 @@ fn extreme_of(r: &mut Random, taps: u32) -> Sheet {
 }
 
 /// An end of the range, a neighbour of it, or any number within.
-fn ends(r: &mut Random, low: i64, high: i64) -> i64 {
+pub fn ends(r: &mut Random, low: i64, high: i64) -> i64 {
     match r.below(6) {
         0 => low,
         1 => high,
@@ -363,7 +377,7 @@ fn fault(r: &mut Random, sheet: &mut Sheet) {
 
 // ---- samples
 
-enum Samples {
+pub enum Samples {
     /// Random PSK symbols, shaped by the root-raised cosine at a rate a little off the design's, turning at the
     /// design's offset, with noise.
     Signal {
@@ -401,7 +415,7 @@ impl Samples {
         }
     }
 
-    fn noise(_: &mut Random) -> Self {
+    fn noise() -> Self {
         Self::Noise {
             run: 0,
             kind: 0,
@@ -409,7 +423,7 @@ impl Samples {
         }
     }
 
-    fn next(&mut self, r: &mut Random) -> [i16; 2] {
+    pub fn next(&mut self, r: &mut Random) -> [i16; 2] {
         match self {
             Self::Signal {
                 sps,

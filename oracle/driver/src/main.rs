@@ -4,11 +4,14 @@ mod calls;
 mod design;
 mod generate;
 mod leaves;
+mod path;
 mod program;
 mod random;
 mod reading;
+mod rows;
 mod sheet;
 mod state;
+mod states;
 
 use std::io::{self, BufRead, BufWriter, Write};
 use std::process::ExitCode;
@@ -26,6 +29,9 @@ oracle: asks the Rust front end of isdb-rs
   oracle input                        standard input: f32 by their bits in hexadecimal; the sample of each
   oracle sheets KIND SEED COUNT       sheets for `validate`
   oracle calls KIND SEED COUNT        sheets with what judging them and offsets of periods answer, for replay_calls
+  oracle path KIND SEED COUNT         sheets, each run from its start in blocks, for replay_calls
+  oracle states KIND SEED COUNT       states that no run reaches, with what a block and a reading make of them,
+                                      for replay_calls
   oracle recording KIND SEED PAIRS    an input of the symbol program
   oracle designs SEED COUNT           designs for `design`
 
@@ -59,6 +65,8 @@ fn run(words: &[&str], input: impl BufRead, output: &mut impl Write) -> io::Resu
             generate::sheets(kind, number(seed)?, number(count)?, output)
         }
         ["calls", kind, seed, count] => calls::write(kind, number(seed)?, number(count)?, output),
+        ["path", kind, seed, count] => path::write(kind, number(seed)?, number(count)?, output),
+        ["states", kind, seed, count] => states::write(kind, number(seed)?, number(count)?, output),
         ["recording", kind, seed, pairs] => {
             generate::recording(kind, number(seed)?, number(pairs)?, output)
         }

@@ -1,7 +1,8 @@
 //! The symbol program over isdb-rs's front end: a sheet, its banks and pairs as text in, symbols as text out.
 
 use crate::random::Random;
-use crate::sheet::{FIELDS, Sheet};
+use crate::reading::SYMBOL;
+use crate::sheet::{FIELDS, Sheet, joined};
 use crate::{number, state, usage};
 use isdb_frontend::fixed::{Frontend, Symbol};
 use std::io::{self, BufRead, Write};
@@ -182,30 +183,35 @@ fn flush(
     front.process(block, symbols);
     block.clear();
     for s in symbols.iter() {
-        writeln!(
-            output,
-            "{},{},{},{},{},{},{},{},{},{},{},{},{},{},{},{},{},{},{},{}",
-            s.sample,
-            s.phase,
-            s.y[0],
-            s.y[1],
-            s.dy[0],
-            s.dy[1],
-            s.yk[0],
-            s.yk[1],
-            s.gain,
-            s.period,
-            s.z[0],
-            s.z[1],
-            s.dz[0],
-            s.dz[1],
-            s.zk[0],
-            s.zk[1],
-            s.q[0],
-            s.q[1],
-            s.e,
-            s.err
-        )?;
+        writeln!(output, "{}", joined(&numbers(s)))?;
     }
     Ok(())
+}
+
+/// A symbol's numbers, in the order of its places.
+pub fn numbers(s: &Symbol) -> [i64; SYMBOL] {
+    let [y, dy, yk, z, dz, zk] = [s.y, s.dy, s.yk, s.z, s.dz, s.zk].map(|v| v.map(i64::from));
+    let q = s.q.map(i64::from);
+    [
+        s.sample as i64,
+        s.phase.into(),
+        y[0],
+        y[1],
+        dy[0],
+        dy[1],
+        yk[0],
+        yk[1],
+        s.gain.into(),
+        s.period.into(),
+        z[0],
+        z[1],
+        dz[0],
+        dz[1],
+        zk[0],
+        zk[1],
+        q[0],
+        q[1],
+        s.e.into(),
+        s.err.into(),
+    ]
 }

@@ -1,16 +1,154 @@
-//! What document 01 adds to isdb-rs, read from the document and written apart from crates/: plain arithmetic in 128 bits
-//! and no care for speed.
+//! A reading of document 01, written apart from crates/: plain arithmetic in 128 bits and no care for speed. Of isdb-rs's
+//! code it uses judging and the cosine table and nothing else. It answers where isdb-rs has no answer: the offset, calls
+//! that are refused, states that no run reaches. Where isdb-rs has one, the two are held against each other (path.rs).
+
+mod way;
 
 use crate::sheet::Sheet;
+use crate::state::State;
+use isdb_frontend::tables::cos_table;
 
-/// The offset of a period in parts per thousand million, rounded down, or the number of the refusal.
-pub fn offset(sheet: &Sheet, period: u32) -> Result<i64, i64> {
-    if let Some(number) = sheet.judge().first() {
-        return Err(*number);
+/// Numbers that a symbol writes.
+pub const SYMBOL: usize = 20;
+
+/// A sheet and what isdb-rs says of it, with the cosine wheel.
+pub struct Reading<'a> {
+    sheet: &'a Sheet,
+    refusal: Vec<i64>,
+    wheel: Vec<i128>,
+}
+
+/// What a block answers.
+pub struct Block {
+    pub state: State,
+    /// What it writes, from the first place on.
+    pub output: Vec<i64>,
+    pub refusal: Vec<i64>,
+}
+
+impl Block {
+    /// The symbols that were written.
+    pub fn count(&self) -> usize {
+        self.output.len() / SYMBOL
     }
-    if !(sheet.period_min..=sheet.period_max).contains(&period) {
-        return Err(13);
+}
+
+/// What reading a state answers.
+#[derive(Default)]
+pub struct Read {
+    /// Period, gain and symbols, the last as the signed number that has its bits.
+    pub numbers: [i64; 3],
+    pub refusal: Vec<i64>,
+}
+
+impl<'a> Reading<'a> {
+    pub fn of(sheet: &'a Sheet) -> Self {
+        Self {
+            sheet,
+            refusal: sheet.judge(),
+            wheel: cos_table().into_iter().map(i128::from).collect(),
+        }
     }
-    let nominal = i128::from(sheet.period_nominal);
-    Ok(((i128::from(period) - nominal) * 1_000_000_000).div_euclid(nominal) as i64)
+
+    /// What judging the sheet answers: a refusal's number and what it carries, or nothing.
+    pub fn refusal(&self) -> &[i64] {
+        &self.refusal
+    }
+
+    /// The offset of a period in parts per thousand million, rounded down, and the number of the refusal or 0.
+    pub fn offset(&self, period: u32) -> (i64, i64) {
+        let sheet = self.sheet;
+        if let Some(number) = self.refusal.first() {
+            return (0, *number);
+        }
+        if !(sheet.period_min..=sheet.period_max).contains(&period) {
+            return (0, 13);
+        }
+        let nominal = i128::from(sheet.period_nominal);
+        let parts = (i128::from(period) - nominal) * 1_000_000_000;
+        (parts.div_euclid(nominal) as i64, 0)
+    }
+
+    /// The state that starting gives: zeros under a sheet that is refused.
+    pub fn start(&self) -> State {
+        match self.refusal[..] {
+            [] => State {
+                period: self.sheet.period_nominal.into(),
+                gain_acc: self.sheet.agc_init.into(),
+                ..State::zeros()
+            },
+            _ => State::zeros(),
+        }
+    }
+
+    /// A block of sample values on a state, into an output of so many places.
+    pub fn block(&self, state: &State, values: &[i16], places: usize) -> Block {
+        let mut block = Block {
+            state: state.clone(),
+            output: Vec::new(),
+            refusal: self.block_refusal(state, values.len(), places),
+        };
+        if block.refusal.is_empty() {
+            for pair in values.chunks(2) {
+                let pair = [pair[0].into(), pair[1].into()];
+                if let Some(symbol) = self.sample(&mut block.state, pair) {
+                    let symbol = symbol.map(|n| i64::try_from(n).expect("64 bits hold it"));
+                    block.output.extend(symbol);
+                }
+            }
+        }
+        block
+    }
+
+    /// Period, gain and symbols of a state.
+    pub fn read(&self, state: &State) -> Read {
+        let refusal = self.state_refusal(state);
+        if !refusal.is_empty() {
+            return Read {
+                refusal,
+                ..Read::default()
+            };
+        }
+        Read {
+            numbers: [state.period, state.gain_acc >> 8, state.symbols].map(|n| n as i64),
+            refusal,
+        }
+    }
+
+    fn block_refusal(&self, state: &State, values: usize, places: usize) -> Vec<i64> {
+        let refusal = self.state_refusal(state);
+        let pairs = values / 2;
+        if !refusal.is_empty() {
+            refusal
+        } else if !values.is_multiple_of(2) {
+            vec![10]
+        } else if places < SYMBOL * pairs {
+            vec![11]
+        } else if state.samples + pairs as i128 > (1 << 63) - 1 {
+            vec![12]
+        } else {
+            Vec::new()
+        }
+    }
+
+    fn state_refusal(&self, state: &State) -> Vec<i64> {
+        match self.refusal[..] {
+            [] if !self.can_go_on(state) => vec![9],
+            _ => self.refusal.clone(),
+        }
+    }
+
+    /// Whether every position, register and count of the state is within its bounds.
+    fn can_go_on(&self, state: &State) -> bool {
+        let sheet = self.sheet;
+        let most = self.integrator_bound();
+        (0..i128::from(sheet.taps)).contains(&state.head)
+            && (0..1 << 26).contains(&state.t_acc)
+            && (-most..=most).contains(&state.v)
+            && (sheet.period_min.into()..=sheet.period_max.into()).contains(&state.period)
+            && (0..1 << 24).contains(&state.gain_acc)
+            && state.waiting == state.symbols.min(24)
+            && (0..24).contains(&state.oldest)
+            && state.symbols <= state.samples
+    }
 }

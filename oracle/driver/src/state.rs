@@ -3,6 +3,97 @@
 use isdb_frontend::fixed::Frontend;
 use std::io::{self, Write};
 
+/// A state in the form that document 01 gives it, with its numbers wide enough for any that its types can hold.
+#[derive(Debug, Clone)]
+pub struct State {
+    pub nco: i128,
+    pub t_acc: i128,
+    pub v: i128,
+    pub period: i128,
+    pub gain_acc: i128,
+    pub symbols: i128,
+    /// Position of the newest pair in the line.
+    pub head: i128,
+    /// Position of the errors that have waited longest.
+    pub oldest: i128,
+    /// How many errors wait.
+    pub waiting: i128,
+    pub samples: i128,
+    pub line: [[i128; 2]; 64],
+    pub errors: [[i128; 2]; 24],
+}
+
+impl State {
+    pub fn zeros() -> Self {
+        Self {
+            nco: 0,
+            t_acc: 0,
+            v: 0,
+            period: 0,
+            gain_acc: 0,
+            symbols: 0,
+            head: 0,
+            oldest: 0,
+            waiting: 0,
+            samples: 0,
+            line: [[0, 0]; 64],
+            errors: [[0, 0]; 24],
+        }
+    }
+
+    /// The state of a front end of isdb-rs. Its queue has no positions: those of document 01 follow from the symbols that
+    /// were made, symbol j's errors standing at place j modulo 24.
+    pub fn of(front: &Frontend) -> Self {
+        let text = format!("{front:?}");
+        let text = whole(&text);
+        let number = |name| value(text, name).parse().expect("a number");
+        let symbols: i128 = number("symbols");
+        let waiting = pairs(text, "pending");
+        let mut state = Self {
+            nco: number("nco"),
+            t_acc: number("t_acc"),
+            v: number("v"),
+            period: number("period"),
+            gain_acc: number("gain_acc"),
+            symbols,
+            head: number("head"),
+            oldest: if symbols > 24 { symbols % 24 } else { 0 },
+            waiting: waiting.len() as i128,
+            samples: number("samples"),
+            ..Self::zeros()
+        };
+        for (place, pair) in state.line.iter_mut().zip(pairs(text, "line")) {
+            *place = pair;
+        }
+        for (j, errors) in (symbols - state.waiting..).zip(waiting) {
+            state.errors[(j % 24) as usize] = errors;
+        }
+        state
+    }
+
+    /// The 186 numbers of a row: ten of the state's own, the line's pairs, the waiting errors by their places. An
+    /// unsigned number of 64 bits is the signed one that has its bits.
+    pub fn numbers(&self) -> Vec<i64> {
+        let own = [
+            self.nco,
+            self.t_acc,
+            self.v,
+            self.period,
+            self.gain_acc,
+            self.symbols,
+            self.head,
+            self.oldest,
+            self.waiting,
+            self.samples,
+        ];
+        own.iter()
+            .chain(self.line.as_flattened())
+            .chain(self.errors.as_flattened())
+            .map(|n| *n as i64)
+            .collect()
+    }
+}
+
 /// Three lines: position of the newest pair, nco, t, v, period, gain accumulator, samples, symbols; then the line's
 /// pairs in the order in which they are stored; then the waiting errors, the oldest first.
 pub fn write(front: &Frontend, output: &mut impl Write) -> io::Result<()> {
@@ -42,6 +133,16 @@ fn value(text: &str, name: &str) -> String {
         .chars()
         .take_while(|c| c.is_ascii_digit() || *c == '-')
         .collect()
+}
+
+/// A list of pairs.
+fn pairs(text: &str, name: &str) -> Vec<[i128; 2]> {
+    let numbers: Vec<i128> = flat(text, name)
+        .split(',')
+        .skip(1)
+        .map(|n| n.parse().expect("a number"))
+        .collect();
+    numbers.chunks(2).map(|pair| [pair[0], pair[1]]).collect()
 }
 
 /// The numbers of a list of pairs, each with a comma before it.

@@ -1,5 +1,5 @@
 -- `replay_calls::main` is safe and ends: the measure is the number of turns that are left.
--- The buffers keep their lengths from piece to piece.
+-- The rooms keep their lengths from piece to piece.
 use mathlib.Core.Path.{_≡_}
 use lib.ListN.{length}
 use borrow.Author.Needs.{needs}
@@ -7,11 +7,11 @@ use Rattle.replay_calls.proofs.main.Statement.{statement}
 use Rattle.replay_calls.proofs.main.Tie as tie
 
 abbrev Inv-loop : tie.InvT-loop
-Inv-loop bytes₀ row₀ h₀ g₀ k₀ progress₀ turns₀ n₀ bytes row h g k progress turns n =
-    (length bytes ≡ 65536) × ((length h ≡ 8192) × ((length g ≡ 8192) × (length k ≡ 8192)))
+Inv-loop bytes₀ row₀ banks₀ values₀ out₀ progress₀ turns₀ n₀ bytes row banks values out progress turns n =
+    (length bytes ≡ 65536) × ((length row ≡ 8192) × ((length banks ≡ 24576) × ((length values ≡ 8192) × (length out ≡ 81920))))
 
 abbrev μ-loop : tie.MeasureT-loop
-μ-loop bytes₀ row₀ h₀ g₀ k₀ progress₀ turns₀ n₀ bytes row h g k progress turns n = turns
+μ-loop bytes₀ row₀ banks₀ values₀ out₀ progress₀ turns₀ n₀ bytes row banks values out progress turns n = turns
 
 large-buffer-requires : tie.Need-large-buffer-requires Inv-loop μ-loop
 large-buffer-requires c κs = search needs
@@ -21,9 +21,6 @@ new-requires c κs = search needs
 
 new-requires-2 : tie.Need-new-requires-2 Inv-loop μ-loop
 new-requires-2 c κs = search needs
-
-params-of-requires : tie.Need-params-of-requires Inv-loop μ-loop
-params-of-requires c κs = search needs
 
 loop-holds : tie.Need-loop-holds Inv-loop μ-loop
 loop-holds c = search needs
@@ -55,6 +52,9 @@ slice-aggregate-piece-3 c = search needs
 slice-aggregate-piece-4 : tie.Need-slice-aggregate-piece-4 Inv-loop μ-loop
 slice-aggregate-piece-4 c = search needs
 
+slice-aggregate-piece-5 : tie.Need-slice-aggregate-piece-5 Inv-loop μ-loop
+slice-aggregate-piece-5 c = search needs
+
 piece-requires : tie.Need-piece-requires Inv-loop μ-loop
 piece-requires c κs = search needs
 
@@ -82,7 +82,6 @@ main-spec =
     large-buffer-requires
     new-requires
     new-requires-2
-    params-of-requires
     loop-holds
     slice-aggregate-read
     read-requires
@@ -93,6 +92,7 @@ main-spec =
     slice-aggregate-piece-2
     slice-aggregate-piece-3
     slice-aggregate-piece-4
+    slice-aggregate-piece-5
     piece-requires
     sub-turns
     loop-less

@@ -13,8 +13,7 @@ use mir.Val.{SFits, toZ, ofZ}
 use mir.Facts.{toZ-ofZ}
 use borrow.Author.Needs.{needs}
 use borrow.Author.Tests.{lt-ltb, le-ltb}
-use Rattle.arith.proofs.Magnitude.{abs-neg, abs-mul}
-use Rattle.arith.proofs.Bits.{sfit, fit-abs, held, widens, widened}
+use Rattle.arith.proofs.Bits.{held, widens, widened}
 use Rattle.params.specs.Judge.{within}
 use Rattle.fixed.specs.Loop.{loopDelay, integratorEnd}
 use Rattle.fixed.specs.Block.{goodState}

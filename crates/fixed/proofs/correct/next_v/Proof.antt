@@ -3,16 +3,16 @@
 use Prim.Native.Nat.{_^_, _<_}
 use mathlib.Core.Path.{_≡_, _∙_}
 use native.Mathlib.Omega.{arith}
-use lib.IntN.{ℤ, pos, negℤ, natAbs, _+ℤ_, _*ℤ_, +ℤ-idl}
+use lib.IntN.{ℤ, natAbs, _+ℤ_, _*ℤ_, +ℤ-idl}
 use mir.Syntax.{w16, w32, w64}
-use mir.Val.{SFits, toZ, ofZ}
+use mir.Val.{SFits}
 use mir.Facts.{toZ-ofZ}
 use borrow.Author.Needs.{needs}
 use Rattle.arith.specs.Arith.{roundShift}
-use Rattle.arith.proofs.Magnitude.{abs-neg, abs-add}
+use Rattle.arith.proofs.Magnitude.{abs-add}
 use Rattle.arith.proofs.Bits.{sfit, back, held, widens, widened}
 use Rattle.fixed.specs.Loop.{nextV}
-use Rattle.fixed.proofs.Widths.{in64, scaled-abs, end-fits, low-fits, end-is}
+use Rattle.fixed.proofs.Widths.{scaled-abs, end-fits, low-fits, end-is}
 use Rattle.fixed.proofs.correct.next_v.Statement.{statement}
 use Rattle.fixed.proofs.correct.next_v.Tie as tie
 

@@ -1,12 +1,11 @@
 -- `fixed::filter::filter` meets its contract: the parts that it hands on are the rows' middles, and a detector row's sums over its middle are those over the row.
 use Prim.Native.Nat.{ℕ, _+_, _-_, _/_, min}
-use mathlib.Core.Path.{_≡_, refl, sym, ap, _∙_}
+use mathlib.Core.Path.{_≡_, sym, ap, _∙_}
 use mathlib.Core.List.{List, [], _∷_}
 use native.Mathlib.Omega.{arith}
 use lib.ListN.{length, take, drop}
 use lib.IntN.{ℤ}
 use borrow.Author.Needs.{needs}
-use Rattle.fixed.specs.declared.Sums.{Sums}
 use Rattle.fixed.specs.Inside.{sumsOver, Row, DetectorRow}
 use Rattle.fixed.proofs.Centre.{low, wide, part-row, part-sums}
 use Rattle.fixed.proofs.filter.filter.Statement.{statement}

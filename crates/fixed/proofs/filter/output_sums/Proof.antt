@@ -1,19 +1,19 @@
 -- `fixed::filter::output_sums` meets its contract: after n coefficients the five sums are those of n coefficients, and within bounds that 64 of them set.
 -- At the end what the raising of the coefficients and of the line adds is taken off.
 use Prim.Native.Nat.{ℕ, _+_, _-_, _*_, _^_, _≤_, _<_}
-use mathlib.Core.Path.{_≡_, refl, sym, ap, _∙_, subst}
+use mathlib.Core.Path.{_≡_, _∙_, subst}
 use mathlib.Core.List.{List}
 use native.Mathlib.Omega.{arith}
-use lib.ListN.{length, getD, take}
+use lib.ListN.{length, getD}
 use lib.IntN.{ℤ, pos, natAbs, _+ℤ_, _-ℤ_, _*ℤ_}
 use mir.Syntax.{w32, w64}
-use mir.Val.{Fits, SFits, toZ, ofZ}
+use mir.Val.{SFits, toZ, ofZ}
 use mir.Facts.{toZ-ofZ, toZ-pos}
 use borrow.Author.Needs.{needs}
 use Rattle.arith.proofs.Magnitude.{abs-minus, abs-mul}
 use Rattle.arith.proofs.Bits.{sfit, back, held}
 use Rattle.params.specs.Judge.{magnitudes}
-use Rattle.fixed.specs.Inside.{Row, sumOver, sumsOver}
+use Rattle.fixed.specs.Inside.{sumOver, sumsOver}
 use Rattle.fixed.proofs.RowSums.{mag-most, mag-each, Weighed, weighed-none, weighed-more, Lifted, lifted-none, lifted-more, Lined, lined-none, lined-more, lifted-all}
 use Rattle.fixed.proofs.filter.output_sums.Statement.{statement}
 use Rattle.fixed.proofs.filter.output_sums.Tie as tie

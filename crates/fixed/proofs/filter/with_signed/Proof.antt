@@ -1,6 +1,6 @@
 -- `fixed::filter::with_signed` meets its contract: a coefficient of 18 bits times a number of 32 stays below 2^50, and with it each sum below 2^62.
 use Prim.Native.Nat.{ℕ, _^_, _≤_}
-use mathlib.Core.Path.{_≡_, ap, _∙_}
+use mathlib.Core.Path.{_≡_}
 use native.Mathlib.Omega.{arith}
 use lib.IntN.{ℤ, pos, natAbs, _+ℤ_, _*ℤ_}
 use mir.Syntax.{w32, w64}

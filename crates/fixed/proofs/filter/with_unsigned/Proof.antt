@@ -1,6 +1,6 @@
 -- `fixed::filter::with_unsigned` meets its contract: a coefficient of 18 bits, raised, is a number from 1 to 262143, and its product with one of 32 bits stays below 2^51.
 use Prim.Native.Nat.{ℕ, _+_, _*_, _^_, _≤_}
-use mathlib.Core.Path.{_≡_, refl, ap, _∙_}
+use mathlib.Core.Path.{_≡_, ap}
 use native.Mathlib.Nat.{mul-le-mul}
 use native.Mathlib.Omega.{arith}
 use lib.Dec.{T}
@@ -11,7 +11,7 @@ use mir.Val.{Fits, SFits, toZ, ofZ}
 use mir.Facts.{toZ-ofZ, fits-widen}
 use borrow.Author.Needs.{needs}
 use Rattle.arith.proofs.Magnitude.{abs-add}
-use Rattle.arith.proofs.Order.{P, N, abs-pn, add-pn, unsign}
+use Rattle.arith.proofs.Order.{abs-pn, add-pn, unsign}
 use Rattle.arith.proofs.Bits.{sfit, back}
 use Rattle.fixed.proofs.filter.with_unsigned.Statement.{statement}
 use Rattle.fixed.proofs.filter.with_unsigned.Tie as tie

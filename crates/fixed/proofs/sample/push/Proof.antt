@@ -1,19 +1,18 @@
 -- `fixed::sample::push` meets its contract: what is kept once the sample was mixed and joined stands for the state with the sample joined (Kept).
 -- The test that decides whether a symbol is made is the one on the state, since the time is the state's.
-use Prim.Native.Nat.{ℕ, _+_, _^_, _≤_, _<_}
+use Prim.Native.Nat.{ℕ, _+_, _≤_, _<_}
 use mathlib.Core.Path.{_≡_, refl, sym, ap, subst, _∙_}
 use mathlib.Core.Bool.{Bool, true, false, true≢false}
 use mathlib.Core.List.{List}
 use native.Mathlib.Omega.{arith}
-use lib.ListN.{length, set, length-set}
-use lib.IntN.{ℤ, pos, natAbs}
+use lib.ListN.{set}
+use lib.IntN.{ℤ}
 use lib.Signed.{ltZ}
-use mir.Syntax.{w16, w32, w64}
+use mir.Syntax.{w32, w64}
 use mir.Facts.{toZ-ofZ}
 use borrow.Author.Needs.{needs}
 use Rattle.arith.proofs.Bits.{back, held}
 use Rattle.params.specs.Judge.{Sheet, sheetOf}
-use Rattle.params.proofs.Accepted.{Accepted}
 use Rattle.fixed.specs.declared.Pair.{Pair}
 use Rattle.fixed.specs.declared.Registers.{Registers}
 use Rattle.fixed.specs.declared.Position.{Position}
@@ -44,7 +43,7 @@ module _ (b : tie.Start) where
   time-is = back w64 (b .args .r .«t_acc») (omega (arith, going-at .soon))
 
   v-is : in64 (b .args .r .v) ≡ b .args .r .v
-  v-is = 
+  v-is =
       let fields = accepted (b .args .p) (b .args .h .now) (b .args .g .now) (b .args .k .now) (b .args .i .now) (b .args .q .now) (b .args .e .now) (b .args .err .now) (b .args .r) (b .args .w) (b .pre .1) .fields in
       back w64 (b .args .r .v) (omega (arith, v-small (b .args .p) (loopOf (b .args .r)) fields (going-at .loop)))
 
@@ -195,13 +194,18 @@ returns c =
     let d = w .before .before .before .before .before .before in
     let a = b d .args in
     let test = w .before .before .before .before .before .if1 .taken in
-    let e = w .with-symbol .ensures in
-    (λ made. e .0 .1,
-    (e .1 .0,
-    (λ f stands. made-sounded (sheet d) f (pair d) (w .with-symbol .result .made) (w .with-symbol .result .symbol) (falls-is d f true stands test) (e .0 .0) (e .1 .1 .0 (joined (sheet d) f (pair d)) (stands-now d f stands)),
-    λ f stands. 
-    subst (Stands (a .p .taps) (line-i d) (line-q d) (w .with-symbol .last .1 .1 .1 .1 .1 .1 .0) (w .with-symbol .last .1 .1 .1 .1 .1 .1 .1 .0) (w .with-symbol .result .registers) (w .with-symbol .result .position))
-    (next-sounded (sheet d) f (pair d) (falls-is d f true stands test)) (e .1 .1 .1 (joined (sheet d) f (pair d)) (stands-now d f stands)))))
+    let e = w .with-symbol .ensures in (
+      λ made. e .0 .1,
+      (
+        e .1 .0,
+        (
+          λ f stands. made-sounded (sheet d) f (pair d) (w .with-symbol .result .made) (w .with-symbol .result .symbol) (falls-is d f true stands test) (e .0 .0) (e .1 .1 .0 (joined (sheet d) f (pair d)) (stands-now d f stands)),
+          λ f stands.
+              subst (Stands (a .p .taps) (line-i d) (line-q d) (w .with-symbol .last .1 .1 .1 .1 .1 .1 .0) (w .with-symbol .last .1 .1 .1 .1 .1 .1 .1 .0) (w .with-symbol .result .registers) (w .with-symbol .result .position))
+              (next-sounded (sheet d) f (pair d) (falls-is d f true stands test)) (e .1 .1 .1 (joined (sheet d) f (pair d)) (stands-now d f stands)),
+        ),
+      ),
+    )
 
 without-symbol-requires : tie.Need-without-symbol-requires
 without-symbol-requires c κs =
@@ -221,15 +225,23 @@ returns-2 c =
     let test = c .before .if1 .left in
     let out = c .without-symbol .result in
     let e = c .without-symbol .ensures in
-    let silence = silent-good (a .p) (a .h .now) (a .g .now) (a .k .now) (line-i d) (line-q d) (a .e .now) (a .err .now) (left d) (stood d) (ready-now d) test in
-    (λ made. absurd (true≢false (sym made ∙ e .1 .1)),
-    ((subst (λ (r : Registers). goodState (a .p) (bare r (out .position)) ≡ true) (sym (e .0))
-    (subst (λ (w : Position). goodState (a .p) (bare (silent (left d)) w) ≡ true) (sym (e .1 .0)) silence), ap (λ (w : Position). w .samples) (e .1 .0)),
-    (λ f stands. made-silent (sheet d) f (pair d) (out .made) (out .symbol) (falls-is d f false stands test) (e .1 .1),
-    λ f stands.
-    subst (Stands (a .p .taps) (line-i d) (line-q d) (a .e .now) (a .err .now) (out .registers) (out .position)) (next-silent (sheet d) f (pair d) (falls-is d f false stands test))
-    (same-stands refl refl refl refl (sym (e .0)) (sym (e .1 .0))
-    (stands-silent (a .p) (a .h .now) (a .g .now) (a .k .now) (line-i d) (line-q d) (a .e .now) (a .err .now) (left d) (stood d) (ready-now d) (joined (sheet d) f (pair d)) (stands-now d f stands))))))
+    let silence = silent-good (a .p) (a .h .now) (a .g .now) (a .k .now) (line-i d) (line-q d) (a .e .now) (a .err .now) (left d) (stood d) (ready-now d) test in (
+      λ made. absurd (true≢false (sym made ∙ e .1 .1)),
+      (
+        (
+          subst (λ (r : Registers). goodState (a .p) (bare r (out .position)) ≡ true) (sym (e .0))
+              (subst (λ (w : Position). goodState (a .p) (bare (silent (left d)) w) ≡ true) (sym (e .1 .0)) silence),
+          ap (λ (w : Position). w .samples) (e .1 .0),
+        ),
+        (
+          λ f stands. made-silent (sheet d) f (pair d) (out .made) (out .symbol) (falls-is d f false stands test) (e .1 .1),
+          λ f stands.
+              subst (Stands (a .p .taps) (line-i d) (line-q d) (a .e .now) (a .err .now) (out .registers) (out .position)) (next-silent (sheet d) f (pair d) (falls-is d f false stands test))
+              (same-stands refl refl refl refl (sym (e .0)) (sym (e .1 .0))
+              (stands-silent (a .p) (a .h .now) (a .g .now) (a .k .now) (line-i d) (line-q d) (a .e .now) (a .err .now) (left d) (stood d) (ready-now d) (joined (sheet d) f (pair d)) (stands-now d f stands))),
+        ),
+      ),
+    )
 
 pub push-spec : {M : Type 1} → statement M
 push-spec =

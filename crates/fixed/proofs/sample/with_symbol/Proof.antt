@@ -9,8 +9,8 @@ use lib.ListN.{set}
 use lib.IntN.{ℤ, pos, natAbs, _+ℤ_, _-ℤ_}
 use lib.Signed.{nonNeg, ltZ, shrZ}
 use mir.Syntax.{w32, w64}
-use mir.Val.{Fits, SFits, toZ, ofZ}
-use mir.Facts.{toZ-ofZ, toZ-pos}
+use mir.Val.{Fits, SFits, toZ}
+use mir.Facts.{toZ-pos}
 use borrow.Author.Needs.{needs}
 use borrow.Author.Tests.{ltb-true}
 use Rattle.arith.proofs.Bits.{sfit, back, held}
@@ -26,8 +26,8 @@ use Rattle.fixed.specs.Block.{goodState}
 use Rattle.fixed.specs.Inside.{bare, Stands}
 use Rattle.fixed.proofs.Widths.{in64}
 use Rattle.fixed.proofs.Loops.{loopOf, Within}
-use Rattle.fixed.proofs.States.{time, minus-nat, Going}
-use Rattle.fixed.proofs.Kept.{dueIn, sounded, placed, accepted, ready-going, v-small, due-small, due-same, sounded-good, stands-symbol, stands-sounded, same-stands}
+use Rattle.fixed.proofs.States.{minus-nat, Going}
+use Rattle.fixed.proofs.Kept.{dueIn, sounded, accepted, ready-going, v-small, due-small, due-same, sounded-good, stands-symbol, stands-sounded, same-stands}
 use Rattle.fixed.proofs.sample.with_symbol.Statement.{statement}
 use Rattle.fixed.proofs.sample.with_symbol.Tie as tie
 
@@ -126,21 +126,23 @@ cast-phase c =
 
 due-requires : tie.Need-due-requires
 due-requires c κs =
-    let b = c .before .before .before .before .before .before in
-    ((b .pre .0 .long-e, b .pre .0 .long-err),
-    (omega (arith, going-at b .oldest), v-small (b .args .p) (loopOf (b .args .r)) (accepted-at b .fields) (going-at b .loop)))
+    let b = c .before .before .before .before .before .before in (
+      (b .pre .0 .long-e, b .pre .0 .long-err),
+      (omega (arith, going-at b .oldest), v-small (b .args .p) (loopOf (b .args .r)) (accepted-at b .fields) (going-at b .loop)),
+    )
 
 symbol-at-requires : tie.Need-symbol-at-requires
 symbol-at-requires c κs =
-    let b = c .before .before .before .before .before .before .before in
-    (record {
-      accepted = b .pre .0 .accepted;
-      head = going-at b .head;
-      gain = due-loop c .gain;
-      long-i = b .pre .0 .long-i;
-      long-q = b .pre .0 .long-q;
-    },
-    subst (λ (z : ℤ). natAbs z < 64) (sym (phase-is (b .args .r .«t_acc») _ (going-at b .whole) (soon b))) (omega (arith, soon b)))
+    let b = c .before .before .before .before .before .before .before in (
+      record {
+        accepted = b .pre .0 .accepted;
+        head = going-at b .head;
+        gain = due-loop c .gain;
+        long-i = b .pre .0 .long-i;
+        long-q = b .pre .0 .long-q;
+      },
+      subst (λ (z : ℤ). natAbs z < 64) (sym (phase-is (b .args .r .«t_acc») _ (going-at b .whole) (soon b))) (omega (arith, soon b)),
+    )
 
 queue-requires : tie.Need-queue-requires
 queue-requires c κs =
@@ -203,9 +205,10 @@ queue-is : (c : tie.After-queue)
 queue-is c =
     let a = b (c .before .before .before .before .before .before) .args in
     let y = c .before .before .before .before .before .symbol-at .result in
-    let at = (a .w .oldest + a .w .waiting) % 24 in
-    (c .queue .ensures .0 ∙ ap (set (a .e .now) at) (held w32 (y .e) (c .before .before .struct-told2 .given .1 .1 .1 .1 .1 .1 .1 .1 .1 .1 .1 .0 .1)),
-    c .queue .ensures .1 ∙ ap (set (a .err .now) at) (held w32 (y .err) (c .before .struct-told3 .given .1 .1 .1 .1 .1 .1 .1 .1 .1 .1 .1 .1 .0 .1)))
+    let at = (a .w .oldest + a .w .waiting) % 24 in (
+      c .queue .ensures .0 ∙ ap (set (a .e .now) at) (held w32 (y .e) (c .before .before .struct-told2 .given .1 .1 .1 .1 .1 .1 .1 .1 .1 .1 .1 .0 .1)),
+      c .queue .ensures .1 ∙ ap (set (a .err .now) at) (held w32 (y .err) (c .before .struct-told3 .given .1 .1 .1 .1 .1 .1 .1 .1 .1 .1 .1 .1 .0 .1)),
+    )
 
 -- what is kept after the symbol stands for the state after it
 stands-after : (c : tie.After-after-symbol)
@@ -233,11 +236,17 @@ returns c =
     let b = b d in
     let a = b .args in
     let good =
-    sounded-good (a .p) (a .h .now) (a .g .now) (a .k .now) (a .i .now) (a .q .now) (a .e .now) (a .err .now) (a .r) (a .w) (b .pre .0) (b .pre .1) in
-    ((refl, y .symbol-at .ensures .0),
-    ((subst (λ (x : Registers). goodState (a .p) (bare x (c .after-symbol .result)) ≡ true) (sym (left-is d))
-    (subst (λ (x : Position). goodState (a .p) (bare (sounded (found d)) x) ≡ true) (sym (c .after-symbol .ensures)) good), ap (λ (x : Position). x .samples) (c .after-symbol .ensures)),
-    (symbol-is c, stands-after c)))
+    sounded-good (a .p) (a .h .now) (a .g .now) (a .k .now) (a .i .now) (a .q .now) (a .e .now) (a .err .now) (a .r) (a .w) (b .pre .0) (b .pre .1) in (
+      (refl, y .symbol-at .ensures .0),
+      (
+        (
+          subst (λ (x : Registers). goodState (a .p) (bare x (c .after-symbol .result)) ≡ true) (sym (left-is d))
+              (subst (λ (x : Position). goodState (a .p) (bare (sounded (found d)) x) ≡ true) (sym (c .after-symbol .ensures)) good),
+          ap (λ (x : Position). x .samples) (c .after-symbol .ensures),
+        ),
+        (symbol-is c, stands-after c),
+      ),
+    )
 
 pub with-symbol-spec : {M : Type 1} → statement M
 with-symbol-spec =

@@ -1,39 +1,44 @@
--- `replay_calls::keep_bank` is safe and ends: each turn fills one more place, of as many as both the row and the bank have.
-use Prim.Native.Nat.{_-_, _≤_}
-use mathlib.Core.Path.{_≡_, _∙_}
-use lib.ListN.{length, length-set}
-use mir.Syntax.{w32}
-use mir.Val.{toZ, ofZ}
+-- `replay_calls::sheet::keep_bank` is safe and ends: each turn fills one more place, of as many as both the row and the third have.
+use Prim.Native.Nat.{_+_, _-_, _≤_}
+use mathlib.Core.Path.{_≡_}
+use lib.ListN.{length}
 use borrow.Author.Needs.{needs}
-use Rattle.replay_calls.proofs.keep_bank.Statement.{statement}
-use Rattle.replay_calls.proofs.keep_bank.Tie as tie
+use Rattle.replay_calls.proofs.sheet.keep_bank.Statement.{statement}
+use Rattle.replay_calls.proofs.sheet.keep_bank.Tie as tie
 
 abbrev Inv-loop : tie.InvT-loop
-Inv-loop row long bank₀ n i₀ bank i = (length bank ≡ length bank₀) × ((n ≤ 8191) × (n ≤ length bank))
+Inv-loop coefficients banks₀ from start third n i₀ banks i =
+    (length banks ≡ length banks₀) × ((n ≤ length coefficients) × (start + n ≤ length banks₀))
 
 abbrev μ-loop : tie.MeasureT-loop
-μ-loop row long bank₀ n i₀ bank i = n - i
+μ-loop coefficients banks₀ from start third n i₀ banks i = n - i
 
 least-requires : tie.Need-least-requires Inv-loop μ-loop
 least-requires c κs = search needs
 
+sub-least : tie.Need-sub-least Inv-loop μ-loop
+sub-least c = search needs
+
 least-requires-2 : tie.Need-least-requires-2 Inv-loop μ-loop
 least-requires-2 c κs = search needs
+
+least-requires-3 : tie.Need-least-requires-3 Inv-loop μ-loop
+least-requires-3 c κs = search needs
 
 loop-holds : tie.Need-loop-holds Inv-loop μ-loop
 loop-holds c = search needs
 
-add-wrap-i32 : tie.Need-add-wrap-i32 Inv-loop μ-loop
-add-wrap-i32 c = search needs
-
 mul-wrap-i32 : tie.Need-mul-wrap-i32 Inv-loop μ-loop
 mul-wrap-i32 c = search needs
 
-element-copy-out-wrap-i32 : tie.Need-element-copy-out-wrap-i32 Inv-loop μ-loop
-element-copy-out-wrap-i32 c = search needs
+shared-slice-copy-out-wrap-i32 : tie.Need-shared-slice-copy-out-wrap-i32 Inv-loop μ-loop
+shared-slice-copy-out-wrap-i32 c = search needs
 
 wrap-i32-requires : tie.Need-wrap-i32-requires Inv-loop μ-loop
 wrap-i32-requires c κs = search needs
+
+add-c : tie.Need-add-c Inv-loop μ-loop
+add-c c = search needs
 
 mul-c : tie.Need-mul-c Inv-loop μ-loop
 mul-c c = search needs
@@ -48,10 +53,7 @@ loop-less : tie.Need-loop-less Inv-loop μ-loop
 loop-less c = search needs
 
 loop-again : tie.Need-loop-again Inv-loop μ-loop
-loop-again c =
-    let l = c .before .before .before .loop in
-    let same = length-set (l .bank) (l .i) (toZ w32 (ofZ w32 (c .wrap-i32 .result))) in
-    (same ∙ l .inv .0, (l .inv .1 .0, rw same (l .inv .1 .1)))
+loop-again c = search needs
 
 same-length : tie.Need-same-length Inv-loop μ-loop
 same-length c = search needs
@@ -66,12 +68,14 @@ keep-bank-spec =
     Inv-loop
     μ-loop
     least-requires
+    sub-least
     least-requires-2
+    least-requires-3
     loop-holds
-    add-wrap-i32
     mul-wrap-i32
-    element-copy-out-wrap-i32
+    shared-slice-copy-out-wrap-i32
     wrap-i32-requires
+    add-c
     mul-c
     slice-set-from-c
     add-i

@@ -1,0 +1,59 @@
+-- `replay_calls::rows::is_same` is safe and ends: each turn compares one more number of the first.
+use Prim.Native.Nat.{_≤_, _-_}
+use lib.ListN.{length}
+use borrow.Author.Needs.{needs}
+use Rattle.replay_calls.proofs.rows.is_same.Statement.{statement}
+use Rattle.replay_calls.proofs.rows.is_same.Tie as tie
+
+abbrev Inv-loop : tie.InvT-loop
+Inv-loop a b n₀ n = n ≤ length a
+
+abbrev μ-loop : tie.MeasureT-loop
+μ-loop a b n₀ n = length a - n
+
+returns : tie.Need-returns Inv-loop μ-loop
+returns c = search needs
+
+loop-holds : tie.Need-loop-holds Inv-loop μ-loop
+loop-holds c = search needs
+
+mul-if2 : tie.Need-mul-if2 Inv-loop μ-loop
+mul-if2 c = search needs
+
+shared-slice-copy-out-if2 : tie.Need-shared-slice-copy-out-if2 Inv-loop μ-loop
+shared-slice-copy-out-if2 c = search needs
+
+at-requires : tie.Need-at-requires Inv-loop μ-loop
+at-requires c κs = search needs
+
+returns-2 : tie.Need-returns-2 Inv-loop μ-loop
+returns-2 c = search needs
+
+add-n : tie.Need-add-n Inv-loop μ-loop
+add-n c = search needs
+
+loop-less : tie.Need-loop-less Inv-loop μ-loop
+loop-less c = search needs
+
+loop-again : tie.Need-loop-again Inv-loop μ-loop
+loop-again c = search needs
+
+returns-3 : tie.Need-returns-3 Inv-loop μ-loop
+returns-3 c = search needs
+
+pub is-same-spec : {M : Type 1} → statement M
+is-same-spec =
+    tie.close
+    (tie.spec
+    Inv-loop
+    μ-loop
+    returns
+    loop-holds
+    mul-if2
+    shared-slice-copy-out-if2
+    at-requires
+    returns-2
+    add-n
+    loop-less
+    loop-again
+    returns-3)

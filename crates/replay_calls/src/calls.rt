@@ -1,0 +1,248 @@
+// What the rows do: some are kept for the calls to come, the others make a call on what is in force and have its answer (oracle/README.md, 'Calls').
+use crate::answer;
+use crate::rows;
+use crate::sheet::Sheet;
+use crate::state;
+use fixed::Frontend;
+use fixed::Processed;
+use replay::Tally;
+
+// What the rows so far leave: how many answers were compared, and what is in force.
+pub(crate) struct Replay {
+    pub(crate) tally: Tally,
+    sheet: Sheet,
+    state: Frontend,
+    // How many sample values are in force.
+    values: usize,
+    // How many places the output of the last block has.
+    places: usize,
+}
+
+// ---- rows that are kept
+
+// Keeps sample values, and says how many.
+fn keep_values(numbers: &[i64], values: &mut [i16]) -> usize {
+    let n = rows::least(numbers.len(), values.len());
+    let mut i: usize = 0;
+    while i < n {
+        let v = arith::sat16(numbers[i]);
+        values[i] = v;
+        i += 1;
+    }
+    n
+}
+
+// ---- a block's output
+
+// What an output holds at a place before a block is asked for: a number far below those of symbols.
+fn pattern(place: usize) -> i64 {
+    rows::i64_of(std::num::wrapping_sub_u64(0xc000_0000_0000_0000, place as u64))
+}
+
+fn fill(out: &mut [i64]) {
+    let mut n: usize = 0;
+    while n < out.len() {
+        let v = pattern(n);
+        out[n] = v;
+        n += 1;
+    }
+}
+
+// Whether an output has room for so many symbols, and still holds the pattern behind them.
+fn is_kept_behind(out: &[i64], count: usize) -> bool {
+    if out.len() / 20 < count {
+        return false;
+    }
+    let mut n = 20 * count;
+    while n < out.len() {
+        if out[n] != pattern(n) {
+            return false;
+        }
+        n += 1;
+    }
+    true
+}
+
+// Whether a row 10 has the answer of a block that was given this output: where it is refused, none of the output is written.
+fn is_block(row: &[i64], block: Processed, out: &[i64]) -> bool {
+    let verdict = block.verdict;
+    let refusal = answer::of_frontend(verdict);
+    rows::at(row, 1) == rows::i64_of(out.len() as u64)
+        && rows::at(row, 2) == rows::i64_of(block.count as u64)
+        && refusal.is(rows::rest(row, 3))
+        && (refusal.number == 0 || block.count == 0)
+        && is_kept_behind(out, block.count)
+}
+
+impl Replay {
+    pub(crate) fn new() -> Replay {
+        Replay {
+            tally: Tally::new(),
+            sheet: Sheet::empty(),
+            state: state::of_numbers(&[]),
+            values: 0,
+            places: 0,
+        }
+    }
+
+    fn counted(self, agrees: bool) -> Replay {
+        let tally = self.tally;
+        let mut next = self;
+        next.tally = tally.counted(agrees);
+        next
+    }
+
+    // Row 4.
+    fn is_judged(self, row: &[i64], banks: &[i32]) -> bool {
+        let sheet = self.sheet;
+        let params = sheet.params;
+        let verdict = params.validate(sheet.h(banks), sheet.g(banks), sheet.k(banks));
+        answer::of_verdict(verdict).is(rows::rest(row, 1))
+    }
+
+    // Row 5: of a refusal it has the number alone.
+    fn is_offset(self, row: &[i64], banks: &[i32]) -> bool {
+        let sheet = self.sheet;
+        let params = sheet.params;
+        let period = arith::wrap_u32(rows::at(row, 1));
+        let offset = params.offset(sheet.h(banks), sheet.g(banks), sheet.k(banks), period);
+        let verdict = offset.verdict;
+        row.len() == 4
+            && rows::at(row, 2) == offset.parts
+            && rows::at(row, 3) == answer::of_offset(verdict).number
+    }
+
+    // Row 8: starting.
+    fn started(self, row: &[i64], banks: &[i32]) -> Replay {
+        let sheet = self.sheet;
+        let params = sheet.params;
+        let started = Frontend::new(params, sheet.h(banks), sheet.g(banks), sheet.k(banks));
+        let verdict = started.verdict;
+        let state = started.state;
+        let mut next = self;
+        next.state = state;
+        next.counted(answer::of_verdict(verdict).is(rows::rest(row, 1)))
+    }
+
+    // Row 10: a block, into this output.
+    fn processed(self, row: &[i64], banks: &[i32], values: &[i16], out: &mut [i64]) -> Replay {
+        fill(&mut *out);
+        let sheet = self.sheet;
+        let params = sheet.params;
+        let given = self.state;
+        let block = given.process(
+            params,
+            sheet.h(banks),
+            sheet.g(banks),
+            sheet.k(banks),
+            values,
+            &mut *out,
+        );
+        let state = block.state;
+        let mut next = self;
+        next.state = state;
+        next.places = out.len();
+        next.counted(is_block(row, block, &*out))
+    }
+
+    // Row 11.
+    fn is_output(self, row: &[i64], out: &[i64]) -> bool {
+        let numbers = rows::rest(row, 2);
+        let places = rows::least(self.places, out.len());
+        let from = rows::u64_of(rows::at(row, 1)) as usize;
+        if places < from {
+            return false;
+        }
+        let end = from + rows::least(numbers.len(), places - from);
+        rows::is_same(&out[from..end], numbers)
+    }
+
+    // Row 12.
+    fn is_reading(self, row: &[i64], banks: &[i32]) -> bool {
+        let sheet = self.sheet;
+        let params = sheet.params;
+        let state = self.state;
+        let reading = state.read(params, sheet.h(banks), sheet.g(banks), sheet.k(banks));
+        let verdict = reading.verdict;
+        rows::at(row, 1) == reading.period as i64
+            && rows::at(row, 2) == reading.gain as i64
+            && rows::at(row, 3) == rows::i64_of(reading.symbols)
+            && answer::of_frontend(verdict).is(rows::rest(row, 4))
+    }
+
+    // Whether a row that leaves all as it is has the answer. No call answers a row of another kind.
+    fn is_answered(self, row: &[i64], banks: &[i32], out: &[i64]) -> bool {
+        let kind = rows::at(row, 0);
+        if kind == 4 {
+            return self.is_judged(row, banks);
+        }
+        if kind == 5 {
+            return self.is_offset(row, banks);
+        }
+        if kind == 9 {
+            return state::is(self.state, rows::rest(row, 1));
+        }
+        if kind == 11 {
+            return self.is_output(row, out);
+        }
+        if kind == 12 {
+            return self.is_reading(row, banks);
+        }
+        false
+    }
+
+    // With the call of a row and its answer.
+    fn called(self, row: &[i64], banks: &[i32], values: &[i16], out: &mut [i64]) -> Replay {
+        let kind = rows::at(row, 0);
+        if kind == 8 {
+            return self.started(row, banks);
+        }
+        if kind == 10 {
+            let given = rows::least(self.values, values.len());
+            let places = rows::least(rows::u64_of(rows::at(row, 1)) as usize, out.len());
+            return self.processed(row, banks, &values[0..given], &mut out[0..places]);
+        }
+        self.counted(self.is_answered(row, banks, &*out))
+    }
+
+    // With a row.
+    fn with_row(
+        self,
+        row: &[i64],
+        banks: &mut [i32],
+        values: &mut [i16],
+        out: &mut [i64],
+    ) -> Replay {
+        let kind = rows::at(row, 0);
+        let mut next = self;
+        if 0 <= kind && kind < 4 {
+            let sheet = self.sheet;
+            next.sheet = sheet.with(kind, rows::rest(row, 1), banks);
+            return next;
+        }
+        if kind == 6 {
+            next.state = state::of_numbers(rows::rest(row, 1));
+            return next;
+        }
+        if kind == 7 {
+            next.values = keep_values(rows::rest(row, 1), values);
+            return next;
+        }
+        self.called(row, &*banks, &*values, out)
+    }
+
+    // With one more row, of so many numbers. Where these are more than it has places for, it is an answer that differs.
+    pub(crate) fn with(
+        self,
+        row: &[i64],
+        numbers: usize,
+        banks: &mut [i32],
+        values: &mut [i16],
+        out: &mut [i64],
+    ) -> Replay {
+        if row.len() < numbers {
+            return self.counted(false);
+        }
+        self.with_row(&row[0..numbers], banks, values, out)
+    }
+}

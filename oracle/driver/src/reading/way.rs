@@ -1,0 +1,111 @@
+//! A sample's way: mixed, into the line, and out as a symbol when one is due.
+
+use super::{Reading, SYMBOL};
+use crate::state::State;
+
+/// A sample, the unit of t and of periods.
+const ONE: i128 = 1 << 24;
+/// Symbols that errors wait.
+const DELAY: i128 = 24;
+
+impl Reading<'_> {
+    /// Takes a pair, and gives the numbers of the symbol that it brings, if it brings one.
+    pub(super) fn sample(&self, s: &mut State, pair: [i128; 2]) -> Option<[i128; SYMBOL]> {
+        let mixed = self.mixed(s.nco, pair);
+        s.nco = (s.nco + i128::from(self.sheet.nco_step)).rem_euclid(1 << 32);
+        s.head = (s.head - 1).rem_euclid(self.sheet.taps.into());
+        s.line[s.head as usize] = mixed;
+        let symbol = (s.t_acc < ONE).then(|| self.symbol(s));
+        s.t_acc -= ONE;
+        s.samples += 1;
+        symbol
+    }
+
+    fn mixed(&self, nco: i128, [i, q]: [i128; 2]) -> [i128; 2] {
+        let at = (nco >> 22) as usize;
+        let (c, s) = (self.wheel[at], self.wheel[(at + 768) % 1024]);
+        [(i * c - q * s + 16384) >> 15, (i * s + q * c + 16384) >> 15]
+    }
+
+    fn symbol(&self, s: &mut State) -> [i128; SYMBOL] {
+        let sheet = self.sheet;
+        let phase = s.t_acc >> 18;
+        if s.waiting == DELAY {
+            let errors = taken(s);
+            self.steer(s, errors);
+        }
+        let [y, dy, yk] = [0, 1, 2].map(|bank| self.filtered(s, bank, phase as usize));
+        let gain = s.gain_acc >> 8;
+        let [z, dz, zk] = [y, dy, yk].map(|pair| pair.map(|v| sixteen(rounded(v * gain, 10))));
+        let end = 1 << (sheet.bits - 1);
+        let q = zk.map(|v| rounded(v, sheet.q_shift).clamp(-end, end - 1));
+        let e = ((z[0] * dz[0] + z[1] * dz[1]) >> sheet.ted_shift).clamp(-8388607, 8388607);
+        let power = (zk[0] * zk[0] + zk[1] * zk[1]) >> 12;
+        let err = signed(i128::from(sheet.agc_target) - power);
+        let symbol = [
+            s.samples, phase, y[0], y[1], dy[0], dy[1], yk[0], yk[1], gain, s.period, z[0], z[1],
+            dz[0], dz[1], zk[0], zk[1], q[0], q[1], e, err,
+        ];
+        join(s, [e, err]);
+        s.t_acc += s.period;
+        s.symbols += 1;
+        symbol
+    }
+
+    /// What the errors of 24 symbols ago do to integrator, period and gain.
+    fn steer(&self, s: &mut State, [e, err]: [i128; 2]) {
+        let sheet = self.sheet;
+        let most = self.integrator_bound();
+        s.v = (s.v + rounded(i128::from(sheet.ki) * e, sheet.ki_shift)).clamp(-most, most);
+        let nominal = i128::from(sheet.period_nominal);
+        let period = nominal + (s.v >> 16) + rounded(i128::from(sheet.kp) * e, sheet.kp_shift);
+        s.period = period.clamp(sheet.period_min.into(), sheet.period_max.into());
+        s.gain_acc = (s.gain_acc + (err >> sheet.agc_shift)).clamp(0, (1 << 24) - 1);
+    }
+
+    pub(super) fn integrator_bound(&self) -> i128 {
+        i128::from(self.sheet.integrator_max) << 16
+    }
+
+    /// The line through a row of a bank: I and Q.
+    fn filtered(&self, s: &State, bank: usize, phase: usize) -> [i128; 2] {
+        let taps = self.sheet.taps as usize;
+        let row = &self.sheet.banks[bank][phase * taps..(phase + 1) * taps];
+        let sum = |part: usize| -> i128 {
+            row.iter()
+                .enumerate()
+                .map(|(n, c)| i128::from(*c) * s.line[(s.head as usize + n) % taps][part])
+                .sum()
+        };
+        [sum(0), sum(1)].map(|sum| sixteen(rounded(sum, 14)))
+    }
+}
+
+/// Takes out the errors that have waited longest.
+fn taken(s: &mut State) -> [i128; 2] {
+    let errors = s.errors[s.oldest as usize];
+    s.oldest = (s.oldest + 1) % DELAY;
+    s.waiting -= 1;
+    errors
+}
+
+/// Puts errors behind those that wait.
+fn join(s: &mut State, errors: [i128; 2]) {
+    s.errors[((s.oldest + s.waiting) % DELAY) as usize] = errors;
+    s.waiting += 1;
+}
+
+/// R: v divided by 2^s, to the nearest number, halves up.
+fn rounded(v: i128, s: u8) -> i128 {
+    if s == 0 { v } else { (v + (1 << (s - 1))) >> s }
+}
+
+/// Clamped to 16 bits signed.
+fn sixteen(v: i128) -> i128 {
+    v.clamp(-32768, 32767)
+}
+
+/// Reduced to 32 bits signed modulo 2^32.
+fn signed(v: i128) -> i128 {
+    (v + (1 << 31)).rem_euclid(1 << 32) - (1 << 31)
+}

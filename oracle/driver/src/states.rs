@@ -1,0 +1,172 @@
+//! States that no run reaches: good ones with anything in the line and the queue, and ones that are broken next to a
+//! bound. isdb-rs cannot be given a state, so the answers are those of the reading of document 01.
+
+use crate::generate::{self, ends};
+use crate::random::Random;
+use crate::reading::{Reading, SYMBOL};
+use crate::rows::Rows;
+use crate::sheet::Sheet;
+use crate::state::State;
+use std::io::{self, Write};
+
+/// States under a sheet before there is another.
+const SHARED: u64 = 25;
+/// The most samples that can be counted.
+const LAST: i64 = i64::MAX;
+
+pub fn write(kind: &str, seed: u64, count: u64, output: &mut impl Write) -> io::Result<()> {
+    let mut r = Random::new(seed);
+    let mut rows = Rows::new(output);
+    let mut left = count;
+    while left > 0 {
+        let sheet = generate::sheet(kind, &mut r)?;
+        let reading = Reading::of(&sheet);
+        rows.sheet(&sheet)?;
+        for _ in 0..left.min(SHARED) {
+            let state = any_state(&mut r, &sheet);
+            calls(&mut rows, &reading, state, &mut r)?;
+        }
+        left = left.saturating_sub(SHARED);
+    }
+    Ok(())
+}
+
+/// A state, a block on it or two, and a reading.
+fn calls(
+    rows: &mut Rows<impl Write>,
+    reading: &Reading,
+    mut state: State,
+    r: &mut Random,
+) -> io::Result<()> {
+    rows.give(&state)?;
+    for _ in 0..r.pick(&[1, 1, 1, 2]) {
+        let (values, places) = any_block(r);
+        let block = reading.block(&state, &values, places);
+        rows.values(&values)?;
+        rows.block(places, &block)?;
+        state = block.state;
+    }
+    rows.state(&state)?;
+    rows.read(&reading.read(&state))
+}
+
+/// A short block, now and then of an odd number of values or with too few places, and places for its output.
+fn any_block(r: &mut Random) -> (Vec<i16>, usize) {
+    let odd = u64::from(r.one_in(8));
+    let values: Vec<i16> = (0..2 * r.below(13) + odd).map(|_| any_value(r)).collect();
+    let enough = SYMBOL * (values.len() / 2);
+    let places = match r.below(8) {
+        0 => enough.saturating_sub(1),
+        1 => r.below(enough as u64 + 1) as usize,
+        2 => enough + r.below(45) as usize,
+        _ => enough,
+    };
+    (values, places)
+}
+
+fn any_value(r: &mut Random) -> i16 {
+    if r.one_in(4) {
+        r.pick(&[i16::MIN, i16::MAX, 0, 1, -1])
+    } else {
+        r.next() as i16
+    }
+}
+
+fn any_state(r: &mut Random, sheet: &Sheet) -> State {
+    let mut state = good_state(r, sheet);
+    if r.one_in(4) {
+        spoil(r, sheet, &mut state);
+    }
+    state
+}
+
+/// A state with every register anywhere within its bounds, at one of them, or next to it.
+fn good_state(r: &mut Random, sheet: &Sheet) -> State {
+    let most = i64::from(sheet.integrator_max) << 16;
+    let (symbols, samples) = counts(r);
+    let line = r.pick(&[31, 31, 31, 16, 13, 0]);
+    let errors = r.pick(&[31, 31, 23, 10]);
+    State {
+        nco: within(r, 0, u32::MAX.into()),
+        t_acc: t(r),
+        v: within(r, -most, most),
+        period: within(r, sheet.period_min.into(), sheet.period_max.into()),
+        gain_acc: within(r, 0, (1 << 24) - 1),
+        symbols,
+        head: within(r, 0, i64::from(sheet.taps).max(1) - 1),
+        oldest: within(r, 0, 23),
+        waiting: symbols.min(24),
+        samples,
+        line: std::array::from_fn(|_| pair(r, line)),
+        errors: std::array::from_fn(|_| pair(r, errors)),
+    }
+}
+
+/// A number from one bound to the other, often next to one; the bounds of a sheet that is refused may be the wrong way
+/// round.
+fn within(r: &mut Random, a: i64, b: i64) -> i128 {
+    ends(r, a.min(b), a.max(b)).into()
+}
+
+/// t, often where a symbol is just due or just not.
+fn t(r: &mut Random) -> i128 {
+    let one = 1 << 24;
+    match r.below(3) {
+        0 => within(r, 0, 4 * one - 1),
+        1 => within(r, 0, one - 1),
+        _ => r.between(one - 2, one + 2).into(),
+    }
+}
+
+/// Two numbers with so many bits and a sign.
+fn pair(r: &mut Random, bits: u32) -> [i128; 2] {
+    let end = 1i64 << bits;
+    [(); 2].map(|()| within(r, -end, end - 1))
+}
+
+/// Symbols, often around the number that can wait; and samples, which are at least as many and often around the last.
+fn counts(r: &mut Random) -> (i128, i128) {
+    let samples: i128 = match r.below(8) {
+        0 => r.between(0, 60).into(),
+        1 | 2 => (LAST - r.between(0, 13)).into(),
+        3 => r.pick(&[LAST as u64, LAST as u64 + 1, u64::MAX]).into(),
+        _ => r.any_i64().saturating_abs().into(),
+    };
+    let symbols = match r.below(4) {
+        0 => samples,
+        1 => r.next().into(),
+        2 => r.between(0, 60).into(),
+        _ => r.between(22, 26).into(),
+    };
+    (symbols.min(samples), samples)
+}
+
+/// Breaks one bound of a state, next to it or far away.
+fn spoil(r: &mut Random, sheet: &Sheet, state: &mut State) {
+    let far: i128 = r.pick(&[i64::MAX as u64, 1 << 63, u64::MAX]).into();
+    let signed: i128 = r.pick(&[i64::MIN, i64::MAX]).into();
+    let most = i128::from(sheet.integrator_max) << 16;
+    let taps = i128::from(sheet.taps);
+    match r.below(8) {
+        0 => state.head = r.pick(&[taps, taps, taps + 1, far]),
+        1 => state.t_acc = r.pick(&[-1, 1 << 26, (1 << 26) + 1, signed]),
+        2 => state.v = r.pick(&[most + 1, -most - 1, signed]),
+        3 => {
+            let (low, high) = (sheet.period_min, sheet.period_max);
+            let past = [low.wrapping_sub(1), high.wrapping_add(1), 0, u32::MAX];
+            state.period = r.pick(&past).into();
+        }
+        4 => state.gain_acc = r.pick(&[1 << 24, (1 << 24) + 1, u32::MAX.into()]),
+        5 => {
+            let right = state.waiting;
+            let other = if right == 24 { 0 } else { 24 };
+            state.waiting = r.pick(&[right + 1, (right + 24) % 25, other, far]);
+        }
+        6 => state.oldest = r.pick(&[24, 24, 25, far]),
+        _ => {
+            state.samples = r.pick(&[0, 22, 23, 24, 1 << 32, LAST.into()]);
+            state.symbols = r.pick(&[state.samples + 1, state.samples + 1, u64::MAX.into()]);
+            state.waiting = state.symbols.min(24);
+        }
+    }
+}
