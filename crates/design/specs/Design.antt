@@ -43,6 +43,7 @@ designFaults d =
     ∷ unlessGood (goodTrim (d .trim)) (floatRefusal 17 (d .trim ∷ []))
     ∷ [])
 
+-- The answer: the first of them, or the registers.
 unfoldable pub designOf : Design → Answer DesignRegisters
 designOf d = firstOr (designFaults d) (registersOf d (spsOf d))
 

@@ -18,6 +18,7 @@ pub record DesignRefusal : Type 0 where
   pub carries : List ℤ
   pub floats : List Float
 
+-- One of a design's, 14 to 17.
 abbrev pub floatRefusal : ℕ → List Float → DesignRefusal
 floatRefusal n xs = record { number = n; carries = []; floats = xs }
 
@@ -33,16 +34,18 @@ designRefusal Taps = floatRefusal 15 []
 designRefusal Bits = floatRefusal 16 []
 designRefusal (Trim trim) = floatRefusal 17 (trim ∷ [])
 
--- The same of a sheet's that is made from a design: the design's, or the judge's.
+-- The same where a sheet is made from a design: the design's, or the judge's.
+-- (Document 01, 'Design and judge together'.)
 abbrev pub sheetRefusal : SheetError → DesignRefusal
 sheetRefusal (SheetError.Design e) = designRefusal e
 sheetRefusal (SheetError.Params e) = judgeRefusal (errorRefusal e)
 
--- An answer: what is refused has nothing else.
+-- What is answered: what was asked for, or a refusal and nothing else.
 pub data Answer (A : Type 0) : Type 0 where
   accepted : A → Answer A
   refused : DesignRefusal → Answer A
 
+-- What the code's two answers say in these terms.
 abbrev pub designAnswer : DesignVerdict → Answer DesignRegisters
 designAnswer (DesignVerdict.Accepted r) = accepted r
 designAnswer (DesignVerdict.Refused e) = refused (designRefusal e)

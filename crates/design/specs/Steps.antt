@@ -29,7 +29,7 @@ leastSps = fin false 17 (negsuc 3)
 unfoldable pub spsOf : Design → Float
 spsOf d = div binary64 (d .«sample_rate») (d .«symbol_rate»)
 
--- The periods are in 2^24ths of a sample. The nominal one is rounded, and the two bounds are cut.
+-- The nominal period, in 2^24ths of a sample: rounded.
 unfoldable pub periodNominal : Float → ℕ
 periodNominal sps = toUnsigned 32 (roundAway (mul binary64 sps (twoTo 24)))
 
@@ -37,20 +37,23 @@ periodNominal sps = toUnsigned 32 (roundAway (mul binary64 sps (twoTo 24)))
 unfoldable pub atLeastMin : Float → Float
 atLeastMin x = cond (lt leastSps x) x leastSps
 
+-- The least period: two hundredths below the nominal one, but at least 1.0625 samples; cut.
 unfoldable pub periodMin : Float → ℕ
 periodMin sps = toUnsigned 32 (mul binary64 (atLeastMin (mul binary64 sps (hundredths 98))) (twoTo 24))
 
+-- The largest period: two hundredths above the nominal one; cut.
 unfoldable pub periodMax : Float → ℕ
 periodMax sps = toUnsigned 32 (mul binary64 (mul binary64 sps (hundredths 102)) (twoTo 24))
 
+-- The furthest that the integrator moves the period: a hundredth of the nominal one; cut.
 unfoldable pub integratorMax : Float → ℤ
 integratorMax sps = toSigned 31 (mul binary64 (mul binary64 sps (hundredths 1)) (twoTo 24))
 
--- The carrier's offset by sample, negated, in 2^32ths of a turn: rounded to 64 bits and reduced modulo 2^32.
+-- What the mixer turns by for each sample, against the carrier's offset, in 2^32ths of a turn: rounded to 64 bits, and that modulo 2^32.
 unfoldable pub ncoStep : Float → Float → ℤ
 ncoStep offset rate = wrapI32 (toSigned 63 (roundAway (mul binary64 (div binary64 (neg offset) rate) (twoTo 32))))
 
--- The power of a level that is given as a fraction of 2^15, in units of 2^12.
+-- The power that the gain loop aims at, of a level that is given as a fraction of 2^15, in units of 2^12: rounded.
 unfoldable pub agcTarget : Float → ℕ
 agcTarget rms =
     let level : Float = mul binary64 rms (twoTo 15) in

@@ -157,7 +157,7 @@ impl Design {
         let designed = self.registers();
         match designed {
             DesignVerdict::Refused(e) => SheetVerdict::Refused(SheetError::Design(e)),
-            DesignVerdict::Accepted(registers) => judge(registers.with(gains), h, g, k),
+            DesignVerdict::Accepted(registers) => judge(registers.with_gains(gains), h, g, k),
         }
     }
 
@@ -183,7 +183,7 @@ impl Design {
 
 impl DesignRegisters {
     // The sheet of these registers and gains.
-    fn with(self, gains: Gains) -> Params
+    fn with_gains(self, gains: Gains) -> Params
         ensures { λ r. ⌜ r ≡ paramsOf self gains ⌝ }
     {
         Params {

@@ -16,8 +16,8 @@ enum-known-designed c = search needs
 enum-known-designed-2 : tie.Need-enum-known-designed-2
 enum-known-designed-2 c = search needs
 
-with-requires : tie.Need-with-requires
-with-requires c κs = search needs
+with-gains-requires : tie.Need-with-gains-requires
+with-gains-requires c κs = search needs
 
 judge-requires : tie.Need-judge-requires
 judge-requires c κs = search needs
@@ -31,7 +31,7 @@ returns-2 : tie.Need-returns-2
 returns-2 c =
     let w = c .before in
     let e = w .before .before .designed2 .given in
-    design-accepts _ _ _ _ _ (sym (ap designAnswer (e .1)) ∙ w .before .before .before .before .registers .ensures) (w .with .ensures) (c .judge .ensures)
+    design-accepts _ _ _ _ _ (sym (ap designAnswer (e .1)) ∙ w .before .before .before .before .registers .ensures) (w .with-gains .ensures) (c .judge .ensures)
 
 pub params-spec : {M : Type 1} → statement M
 params-spec =
@@ -40,7 +40,7 @@ params-spec =
     registers-requires
     enum-known-designed
     enum-known-designed-2
-    with-requires
+    with-gains-requires
     judge-requires
     returns
     returns-2)

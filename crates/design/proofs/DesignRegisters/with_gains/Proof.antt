@@ -1,12 +1,12 @@
--- `design::DesignRegisters::with` meets its contract: every field is taken over as it is.
+-- `design::DesignRegisters::with_gains` meets its contract: every field is taken over as it is.
 -- Only the bits of the four signed ones have to be read back.
 use mathlib.Core.Path.{_≡_}
 use mir.Syntax.{w16, w32}
 use mir.Val.{toZ, ofZ}
 use mir.Facts.{toZ-ofZ}
 use Rattle.design.specs.Design.{paramsOf}
-use Rattle.design.proofs.DesignRegisters.with.Statement.{statement}
-use Rattle.design.proofs.DesignRegisters.with.Tie as tie
+use Rattle.design.proofs.DesignRegisters.with_gains.Statement.{statement}
+use Rattle.design.proofs.DesignRegisters.with_gains.Tie as tie
 
 returns : tie.Need-returns
 unfolding paramsOf
@@ -37,5 +37,5 @@ returns c =
       «block_log2» = r .«block_log2»;
     }
 
-pub with-spec : {M : Type 1} → statement M
-with-spec = tie.close (tie.spec returns)
+pub with-gains-spec : {M : Type 1} → statement M
+with-gains-spec = tie.close (tie.spec returns)
