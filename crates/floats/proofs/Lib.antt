@@ -3,3 +3,4 @@ pub mod Doubled
 pub mod Ends
 pub mod Rounded
 pub mod Narrow
+pub mod Patterns

@@ -10,12 +10,12 @@ use lib.IntN.{ℤ, pos, negsuc, negℤ, _+ℤ_}
 use lib.Signed.{quotZ, remZ}
 use lib.Ieee.{Float, nan, inf, fin, binary64, emax, up, down, add, lt, fits, toSigned}
 use lib.Ieee.Fits.{down-pos}
-use borrow.Author.Tests.{ltb-true, ltb-false}
-use Rattle.arith.proofs.Order.{add-pn, neg-P, neg-N, eq-pn}
-use Rattle.floats.specs.Whole.{nearestUp, roundAway}
 use mir.Syntax.{w64}
 use mir.Val.{SFits, toZ, ofZ}
 use mir.Facts.{toZ-ofZ}
+use borrow.Author.Tests.{ltb-true, ltb-false}
+use Rattle.arith.proofs.Order.{add-pn, neg-P, neg-N, eq-pn}
+use Rattle.floats.specs.Whole.{nearestUp, roundAway}
 use Rattle.floats.proofs.Doubled.{few-digits, double}
 use Rattle.floats.proofs.Ends.{top, bottom, signed, inside, below-bottom, above-top, Within, within}
 
