@@ -81,7 +81,7 @@ pub enum SheetVerdict {
     Refused(SheetError),
 }
 
-// Neither test lets a NaN pass.
+// 14. The first test refuses a NaN.
 fn is_good_sps(sps: f64) -> bool
     ensures { λ r. ⌜ r ≡ goodSps sps ⌝ }
 {
@@ -91,15 +91,7 @@ fn is_good_sps(sps: f64) -> bool
     false
 }
 
-fn is_good_trim(trim: f64) -> bool
-    ensures { λ r. ⌜ r ≡ goodTrim trim ⌝ }
-{
-    if trim >= -0.5 {
-        return trim <= 0.5;
-    }
-    false
-}
-
+// 15, which is the judge's rule on taps.
 fn is_good_taps(taps: u32) -> bool
     ensures { λ r. ⌜ r ≡ goodTaps taps ⌝ }
 {
@@ -112,6 +104,7 @@ fn is_good_taps(taps: u32) -> bool
     taps % 2 == 0
 }
 
+// 16.
 fn is_good_bits(bits: u8) -> bool
     ensures { λ r. ⌜ r ≡ (leb 2 bits && leb bits 8) ⌝ }
 {
@@ -119,6 +112,16 @@ fn is_good_bits(bits: u8) -> bool
         return false;
     }
     bits <= 8
+}
+
+// 17. The first test refuses a NaN.
+fn is_good_trim(trim: f64) -> bool
+    ensures { λ r. ⌜ r ≡ goodTrim trim ⌝ }
+{
+    if trim >= -0.5 {
+        return trim <= 0.5;
+    }
+    false
 }
 
 impl Design {
