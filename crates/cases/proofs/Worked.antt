@@ -4,14 +4,19 @@ use Rattle.arith.specs.Arith.{roundShift, clampZ, modZ, wrapI32}
 use Rattle.tables.specs.Wheel.{quarter, wheel}
 use Rattle.params.specs.Judge.{goodTaps, goodLength, rowOf, coefficientFaults, magnitudes, rowFaults, rowsFaults, detectorPlace, zeroOutside, rowsOutside, lengthFaults, bankFaults, goodPeriods, fieldFaults, faults, judged}
 use Rattle.params.specs.Offset.{partsOf, offsetOf}
+use Rattle.floats.specs.Whole.{roundAway}
+use Rattle.design.specs.Steps.{hundredths, spsOf, periodNominal, atLeastMin, periodMin, periodMax, integratorMax, ncoStep, agcTarget, registersOf}
+use Rattle.design.specs.Design.{goodSps, goodTrim, designFaults, designOf}
 use Rattle.fixed.specs.Mix.{mixed}
 use Rattle.fixed.specs.Symbol.{quantised, gainError}
 use Rattle.cases.specs.Sheet.{rows, paramsWith, sheetOf, sheet, firstOfK}
+use Rattle.cases.specs.Rates.{twoSamples, registersWith}
 use Rattle.cases.specs.Worked.{placesFrom, Worked}
+use lib.Ieee.{round, neg, mul, div, lt, le, eq, toUnsigned, toSigned}
 use mathlib.Core.List.{flatten}
 
 pub worked : Worked
-unfolding flatten roundShift clampZ modZ wrapI32 quarter wheel goodTaps goodLength rowOf coefficientFaults magnitudes rowFaults rowsFaults detectorPlace zeroOutside lengthFaults bankFaults rowsOutside goodPeriods fieldFaults faults judged partsOf offsetOf mixed quantised gainError rows paramsWith sheetOf sheet firstOfK placesFrom
+unfolding flatten roundShift clampZ modZ wrapI32 quarter wheel goodTaps goodLength rowOf coefficientFaults magnitudes rowFaults rowsFaults detectorPlace zeroOutside lengthFaults bankFaults rowsOutside goodPeriods fieldFaults faults judged partsOf offsetOf mixed quantised gainError rows paramsWith sheetOf sheet firstOfK placesFrom round neg mul div lt le eq toUnsigned toSigned roundAway hundredths spsOf periodNominal atLeastMin periodMin periodMax integratorMax ncoStep agcTarget registersOf goodSps goodTrim designFaults designOf twoSamples registersWith
 worked = record {
   round-down = refl;
   round-up = refl;
@@ -29,5 +34,6 @@ worked = record {
   detector = refl;
   offset-above = refl;
   offset-below = refl;
+  registers-at-two = refl;
   error-wraps = refl;
 }

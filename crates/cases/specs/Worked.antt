@@ -1,5 +1,5 @@
 -- The worked cases as one claim.
--- (Document 01, 'Proved cases', P1 to P8 and P10, in their order.)
+-- (Document 01, 'Proved cases', P1 to P10, in their order.)
 use Prim.Native.Nat.{ℕ, zero, suc}
 use mathlib.Core.Path.{_≡_}
 use mathlib.Core.Bool.{cond}
@@ -10,9 +10,12 @@ use Rattle.params.specs.declared.Params.{Params}
 use Rattle.params.specs.Refusal.{refusal, nothing}
 use Rattle.params.specs.Judge.{detectorPlace, judged}
 use Rattle.params.specs.Offset.{offsetOf}
+use Rattle.design.specs.Refusal.{accepted}
+use Rattle.design.specs.Design.{designOf}
 use Rattle.fixed.specs.Mix.{mixed}
 use Rattle.fixed.specs.Symbol.{quantised, gainError}
 use Rattle.cases.specs.Sheet.{paramsWith, sheetOf, sheet, firstOfK}
+use Rattle.cases.specs.Rates.{twoSamples, registersWith}
 
 -- The detector's places among n taps from tap t on.
 unfoldable pub placesFrom : ℕ → ℕ → ℕ → List ℕ
@@ -66,5 +69,7 @@ pub record Worked : Type 0 where
   -- P8
   pub offset-above : offsetOf sheet 33554465 ≡ record { refused = nothing; parts = pos 983 }
   pub offset-below : offsetOf sheet 33554399 ≡ record { refused = nothing; parts = negsuc 983 }
+  -- P9
+  pub registers-at-two : designOf twoSamples ≡ accepted (registersWith 33554432 32883343 34225520 335544)
   -- P10
   pub error-wraps : gainError narrow (record { i = pos 0; q = pos 0 }) ≡ negsuc 2147483647

@@ -1,0 +1,2 @@
+-- What a reader has to believe of the input sample.
+pub mod Input
