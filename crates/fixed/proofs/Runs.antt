@@ -2,6 +2,7 @@
 -- Both follow by going through the list from its head.
 use Prim.Native.Nat.{ℕ, zero, suc, _+_, _*_, _<_}
 use mathlib.Core.Path.{_≡_, refl, sym, ap, _∙_}
+use mathlib.Core.Bool.{Bool, true, false}
 use mathlib.Core.List.{List, [], _∷_, _++_, append-assoc}
 use native.Mathlib.Omega.{arith}
 use lib.ListN.{length, getD, length-append, List·getD-append}
@@ -12,7 +13,7 @@ use Rattle.fixed.specs.declared.Pair.{Pair}
 use Rattle.fixed.specs.declared.Frontend.{Frontend}
 use Rattle.fixed.specs.declared.Symbol.{Symbol}
 use Rattle.fixed.specs.Symbol.{placesOf}
-use Rattle.fixed.specs.Sample.{next, madeBy, after, emitted}
+use Rattle.fixed.specs.Sample.{joined, withSymbol, withoutSymbol, falls, next, madeBy, after, emitted}
 use Rattle.fixed.specs.Block.{flattened}
 
 module _ (s : Sheet) where
@@ -27,6 +28,20 @@ module _ (s : Sheet) where
   emitted-append f (x ∷ xs) ys =
       ap (λ (l : List Symbol). madeBy s f x ++ l) (emitted-append (next s f x) xs ys)
       ∙ sym (append-assoc (madeBy s f x) (emitted s (next s f x) xs) (emitted s (after s (next s f x) xs) ys))
+
+  -- each sample counts itself
+  next-samples : (f : Frontend) (x : Pair) → next s f x .samples ≡ f .samples + 1
+  unfolding next joined withSymbol withoutSymbol
+  next-samples f x = go (falls f) refl
+    where
+      go : (b : Bool) → falls f ≡ b → next s f x .samples ≡ f .samples + 1
+      go true e = rw e
+      go false e = rw e
+
+  pub run-samples : (f : Frontend) (xs : List Pair) → after s f xs .samples ≡ f .samples + length xs
+  unfolding after
+  run-samples f [] = omega arith
+  run-samples f (x ∷ xs) = omega (arith, run-samples (next s f x) xs, next-samples f x)
 
 -- ---- the places of symbols
 

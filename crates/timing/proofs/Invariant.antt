@@ -285,16 +285,3 @@ module _ (s : Sheet) where
     run-placed f S [] i = tt
     run-placed f S (x ∷ xs) i =
         each-append S (madeBy s f x) (emitted s (next s f x) xs) (next-placed f S x i) (run-placed (next s f x) (S ++ madeBy s f x) xs (next-inv f S x i))
-
-    next-samples : (f : Frontend) (x : Pair) → next s f x .samples ≡ f .samples + 1
-    unfolding joined withSymbol withoutSymbol
-    next-samples f x = go (falls f) refl
-      where
-        go : (b : Bool) → falls f ≡ b → next s f x .samples ≡ f .samples + 1
-        go true e = rw (next-is f x true e)
-        go false e = rw (next-is f x false e)
-
-    pub run-samples : (f : Frontend) (xs : List Pair) → after s f xs .samples ≡ f .samples + length xs
-    unfolding after
-    run-samples f [] = omega arith
-    run-samples f (x ∷ xs) = omega (arith, run-samples (next s f x) xs, next-samples f x)

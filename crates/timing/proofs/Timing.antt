@@ -27,12 +27,12 @@ use Rattle.fixed.specs.Sample.{after, emitted}
 use Rattle.fixed.specs.Block.{flattened}
 use Rattle.timing.specs.Lists.{Call, first, samplesOf, endState, placesWritten, symbolCount}
 use Rattle.timing.specs.Timing.{placeAt, sampleAt, phaseAt, gainAt, periodAt, periodsBefore, Whole, Place, Apart, Rest, AgreeUpTo, Delayed, SameRun, TimingHolds}
-use Rattle.fixed.proofs.Runs.{emitted-append, length-flattened, place-flattened}
+use Rattle.fixed.proofs.Runs.{emitted-append, length-flattened, place-flattened, run-samples}
 use Rattle.timing.proofs.Calls.{calls-state, calls-written, calls-counted}
 use Rattle.fixed.proofs.Loops.{Loop}
 use Rattle.timing.proofs.Errors.{total, total-append, total-suc, errors, errors-take, movedBy, freshLoop}
 use Rattle.fixed.proofs.States.{time}
-use Rattle.timing.proofs.Invariant.{loopAt, Inv, Placed, each-at, fresh-inv, loopAt-within, run-inv, run-placed, run-samples}
+use Rattle.timing.proofs.Invariant.{loopAt, Inv, Placed, each-at, fresh-inv, loopAt-within, run-inv, run-placed}
 
 abbrev noOutput : Output
 noOutput = record { i = pos 0; q = pos 0 }
@@ -84,7 +84,7 @@ module _ (s : Sheet) (a : Accepted s) where
 
   end-samples : (xs : List Pair) → after s f₀ xs .samples ≡ length xs
   unfolding f₀ fresh
-  end-samples xs = omega (arith, run-samples s a f₀ xs)
+  end-samples xs = omega (arith, run-samples s f₀ xs)
 
   period-within : (xs : List Pair) (k : ℕ) → k < length (run xs) → (s .params .«period_min» ≤ at (run xs) k .period) × (at (run xs) k .period ≤ s .params .«period_max»)
   period-within xs k h =
