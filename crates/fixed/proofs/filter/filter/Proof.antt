@@ -28,111 +28,111 @@ module _ (row : List ℤ) (i q : List ℕ) (a b taps : ℕ) (ea : a ≡ (taps - 
 
 -- ---- rows of fewer than eight places
 
-row-sums-requires : tie.Need-row-sums-requires
-row-sums-requires c κs = c .before .before .before .pre .0 .good
+detector-sums-requires : tie.Need-detector-sums-requires
+detector-sums-requires c κs = c .before .before .before .pre .0 .good
 
-row-sums-requires-2 : tie.Need-row-sums-requires-2
-row-sums-requires-2 c κs = c .before .before .before .before .pre .1 .0 .good
+detector-sums-requires-2 : tie.Need-detector-sums-requires-2
+detector-sums-requires-2 c κs = c .before .before .before .before .pre .1 .0 .good
 
-row-sums-requires-3 : tie.Need-row-sums-requires-3
-row-sums-requires-3 c κs = c .before .before .before .before .before .pre .1 .1
+detector-sums-requires-3 : tie.Need-detector-sums-requires-3
+detector-sums-requires-3 c κs = c .before .before .before .before .before .pre .1 .1
 
 returns : tie.Need-returns
-returns c = λ t. c .before .before .row-sums .ensures t ∷ c .before .row-sums2 .ensures t ∷ c .row-sums3 .ensures t ∷ []
+returns c = λ t. c .before .before .detector-sums .ensures t ∷ c .before .detector-sums2 .ensures t ∷ c .detector-sums3 .ensures t ∷ []
 
 -- ---- all others
 
 detector-of-requires : tie.Need-detector-of-requires
 detector-of-requires c κs = search needs
 
-mul-row-sums : tie.Need-mul-row-sums
-mul-row-sums c = search needs
+mul-detector-sums : tie.Need-mul-detector-sums
+mul-detector-sums c = search needs
 
-sub-row-sums : tie.Need-sub-row-sums
-sub-row-sums c = search needs
+sub-detector-sums : tie.Need-sub-detector-sums
+sub-detector-sums c = search needs
 
-part-row-sums-start : tie.Need-part-row-sums-start
-part-row-sums-start c = search needs
+part-detector-sums-start : tie.Need-part-detector-sums-start
+part-detector-sums-start c = search needs
 
-part-row-sums-end : tie.Need-part-row-sums-end
-part-row-sums-end c = search needs
+part-detector-sums-end : tie.Need-part-detector-sums-end
+part-detector-sums-end c = search needs
 
-mul-row-sums-2 : tie.Need-mul-row-sums-2
-mul-row-sums-2 c = search needs
+mul-detector-sums-2 : tie.Need-mul-detector-sums-2
+mul-detector-sums-2 c = search needs
 
-sub-row-sums-2 : tie.Need-sub-row-sums-2
-sub-row-sums-2 c = search needs
+sub-detector-sums-2 : tie.Need-sub-detector-sums-2
+sub-detector-sums-2 c = search needs
 
-part-row-sums-start-2 : tie.Need-part-row-sums-start-2
-part-row-sums-start-2 c = search needs
+part-detector-sums-start-2 : tie.Need-part-detector-sums-start-2
+part-detector-sums-start-2 c = search needs
 
-part-row-sums-end-2 : tie.Need-part-row-sums-end-2
-part-row-sums-end-2 c = search needs
+part-detector-sums-end-2 : tie.Need-part-detector-sums-end-2
+part-detector-sums-end-2 c = search needs
 
-mul-row-sums-3 : tie.Need-mul-row-sums-3
-mul-row-sums-3 c = search needs
+mul-detector-sums-3 : tie.Need-mul-detector-sums-3
+mul-detector-sums-3 c = search needs
 
-sub-row-sums-3 : tie.Need-sub-row-sums-3
-sub-row-sums-3 c = search needs
+sub-detector-sums-3 : tie.Need-sub-detector-sums-3
+sub-detector-sums-3 c = search needs
 
-part-row-sums-start-3 : tie.Need-part-row-sums-start-3
-part-row-sums-start-3 c = search needs
+part-detector-sums-start-3 : tie.Need-part-detector-sums-start-3
+part-detector-sums-start-3 c = search needs
 
-part-row-sums-end-3 : tie.Need-part-row-sums-end-3
-part-row-sums-end-3 c = search needs
+part-detector-sums-end-3 : tie.Need-part-detector-sums-end-3
+part-detector-sums-end-3 c = search needs
 
-row-sums-requires-4 : tie.Need-row-sums-requires-4
-row-sums-requires-4 c κs =
+detector-sums-requires-4 : tie.Need-detector-sums-requires-4
+detector-sums-requires-4 c κs =
     let b = c .before .before .before in
     let a = b .before .before .before .before in
     let f = b .detector-of in
     middle-row (a .args .h .now) (a .args .i .now) (a .args .q .now) (f .result .low) (f .result .high) (length (a .args .k .now)) (f .ensures .0) (f .ensures .1) (omega arith) (a .pre .0)
 
-mul-row-sums-4 : tie.Need-mul-row-sums-4
-mul-row-sums-4 c = search needs
+mul-detector-sums-4 : tie.Need-mul-detector-sums-4
+mul-detector-sums-4 c = search needs
 
-sub-row-sums-4 : tie.Need-sub-row-sums-4
-sub-row-sums-4 c = search needs
+sub-detector-sums-4 : tie.Need-sub-detector-sums-4
+sub-detector-sums-4 c = search needs
 
-part-row-sums-start-4 : tie.Need-part-row-sums-start-4
-part-row-sums-start-4 c = search needs
+part-detector-sums-start-4 : tie.Need-part-detector-sums-start-4
+part-detector-sums-start-4 c = search needs
 
-part-row-sums-end-4 : tie.Need-part-row-sums-end-4
-part-row-sums-end-4 c = search needs
+part-detector-sums-end-4 : tie.Need-part-detector-sums-end-4
+part-detector-sums-end-4 c = search needs
 
-mul-row-sums-5 : tie.Need-mul-row-sums-5
-mul-row-sums-5 c = search needs
+mul-detector-sums-5 : tie.Need-mul-detector-sums-5
+mul-detector-sums-5 c = search needs
 
-sub-row-sums-5 : tie.Need-sub-row-sums-5
-sub-row-sums-5 c = search needs
+sub-detector-sums-5 : tie.Need-sub-detector-sums-5
+sub-detector-sums-5 c = search needs
 
-part-row-sums-start-5 : tie.Need-part-row-sums-start-5
-part-row-sums-start-5 c = search needs
+part-detector-sums-start-5 : tie.Need-part-detector-sums-start-5
+part-detector-sums-start-5 c = search needs
 
-part-row-sums-end-5 : tie.Need-part-row-sums-end-5
-part-row-sums-end-5 c = search needs
+part-detector-sums-end-5 : tie.Need-part-detector-sums-end-5
+part-detector-sums-end-5 c = search needs
 
-mul-row-sums-6 : tie.Need-mul-row-sums-6
-mul-row-sums-6 c = search needs
+mul-detector-sums-6 : tie.Need-mul-detector-sums-6
+mul-detector-sums-6 c = search needs
 
-sub-row-sums-6 : tie.Need-sub-row-sums-6
-sub-row-sums-6 c = search needs
+sub-detector-sums-6 : tie.Need-sub-detector-sums-6
+sub-detector-sums-6 c = search needs
 
-part-row-sums-start-6 : tie.Need-part-row-sums-start-6
-part-row-sums-start-6 c = search needs
+part-detector-sums-start-6 : tie.Need-part-detector-sums-start-6
+part-detector-sums-start-6 c = search needs
 
-part-row-sums-end-6 : tie.Need-part-row-sums-end-6
-part-row-sums-end-6 c = search needs
+part-detector-sums-end-6 : tie.Need-part-detector-sums-end-6
+part-detector-sums-end-6 c = search needs
 
-row-sums-requires-5 : tie.Need-row-sums-requires-5
-row-sums-requires-5 c κs =
+detector-sums-requires-5 : tie.Need-detector-sums-requires-5
+detector-sums-requires-5 c κs =
     let b = c .before .before .before .before .before .before .before in
     let a = b .before .before .before .before in
     let f = b .detector-of in
     middle-row (a .args .g .now) (a .args .i .now) (a .args .q .now) (f .result .low) (f .result .high) (length (a .args .k .now)) (f .ensures .0) (f .ensures .1) (omega arith) (a .pre .1 .0)
 
-row-sums-requires-6 : tie.Need-row-sums-requires-6
-row-sums-requires-6 c κs = search needs
+output-sums-requires : tie.Need-output-sums-requires
+output-sums-requires c κs = search needs
 
 returns-2 : tie.Need-returns-2
 returns-2 c =
@@ -141,45 +141,45 @@ returns-2 c =
     let f = b .detector-of in
     let h = middle-sums (a .args .h .now) (a .args .i .now) (a .args .q .now) (f .result .low) (f .result .high) (length (a .args .k .now)) (f .ensures .0) (f .ensures .1) (omega arith) (a .pre .0) in
     let g = middle-sums (a .args .g .now) (a .args .i .now) (a .args .q .now) (f .result .low) (f .result .high) (length (a .args .k .now)) (f .ensures .0) (f .ensures .1) (omega arith) (a .pre .1 .0) in
-    let x : c .before .before .before .before .before .row-sums4 .result ≡ sumsOver (a .args .h .now) (a .args .i .now) (a .args .q .now) = c .before .before .before .before .before .row-sums4 .ensures ∙ h in
-    let y : c .before .row-sums5 .result ≡ sumsOver (a .args .g .now) (a .args .i .now) (a .args .q .now) = c .before .row-sums5 .ensures ∙ g in
-    let z : c .row-sums6 .result ≡ sumsOver (a .args .k .now) (a .args .i .now) (a .args .q .now) = c .row-sums6 .ensures in
+    let x : c .before .before .before .before .before .detector-sums4 .result ≡ sumsOver (a .args .h .now) (a .args .i .now) (a .args .q .now) = c .before .before .before .before .before .detector-sums4 .ensures ∙ h in
+    let y : c .before .detector-sums5 .result ≡ sumsOver (a .args .g .now) (a .args .i .now) (a .args .q .now) = c .before .detector-sums5 .ensures ∙ g in
+    let z : c .output-sums .result ≡ sumsOver (a .args .k .now) (a .args .i .now) (a .args .q .now) = c .output-sums .ensures in
     λ t. x t ∷ y t ∷ z t ∷ []
 
 pub filter-spec : {M : Type 1} → statement M
 filter-spec =
     tie.close
     (tie.spec
-    row-sums-requires
-    row-sums-requires-2
-    row-sums-requires-3
+    detector-sums-requires
+    detector-sums-requires-2
+    detector-sums-requires-3
     returns
     detector-of-requires
-    mul-row-sums
-    sub-row-sums
-    part-row-sums-start
-    part-row-sums-end
-    mul-row-sums-2
-    sub-row-sums-2
-    part-row-sums-start-2
-    part-row-sums-end-2
-    mul-row-sums-3
-    sub-row-sums-3
-    part-row-sums-start-3
-    part-row-sums-end-3
-    row-sums-requires-4
-    mul-row-sums-4
-    sub-row-sums-4
-    part-row-sums-start-4
-    part-row-sums-end-4
-    mul-row-sums-5
-    sub-row-sums-5
-    part-row-sums-start-5
-    part-row-sums-end-5
-    mul-row-sums-6
-    sub-row-sums-6
-    part-row-sums-start-6
-    part-row-sums-end-6
-    row-sums-requires-5
-    row-sums-requires-6
+    mul-detector-sums
+    sub-detector-sums
+    part-detector-sums-start
+    part-detector-sums-end
+    mul-detector-sums-2
+    sub-detector-sums-2
+    part-detector-sums-start-2
+    part-detector-sums-end-2
+    mul-detector-sums-3
+    sub-detector-sums-3
+    part-detector-sums-start-3
+    part-detector-sums-end-3
+    detector-sums-requires-4
+    mul-detector-sums-4
+    sub-detector-sums-4
+    part-detector-sums-start-4
+    part-detector-sums-end-4
+    mul-detector-sums-5
+    sub-detector-sums-5
+    part-detector-sums-start-5
+    part-detector-sums-end-5
+    mul-detector-sums-6
+    sub-detector-sums-6
+    part-detector-sums-start-6
+    part-detector-sums-end-6
+    detector-sums-requires-5
+    output-sums-requires
     returns-2)

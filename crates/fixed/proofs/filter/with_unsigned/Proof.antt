@@ -1,4 +1,4 @@
--- `fixed::filter::with_tap` meets its contract: a coefficient of 18 bits, raised, is a number from 1 to 262143, and its product with one of 32 bits stays below 2^51.
+-- `fixed::filter::with_unsigned` meets its contract: a coefficient of 18 bits, raised, is a number from 1 to 262143, and its product with one of 32 bits stays below 2^51.
 use Prim.Native.Nat.{ℕ, _+_, _*_, _^_, _≤_}
 use mathlib.Core.Path.{_≡_, ap}
 use native.Mathlib.Nat.{mul-le-mul}
@@ -13,8 +13,8 @@ use borrow.Author.Needs.{needs}
 use Rattle.arith.proofs.Magnitude.{abs-add}
 use Rattle.arith.proofs.Order.{abs-pn, add-pn, unsign}
 use Rattle.arith.proofs.Bits.{sfit, back}
-use Rattle.fixed.proofs.filter.with_tap.Statement.{statement}
-use Rattle.fixed.proofs.filter.with_tap.Tie as tie
+use Rattle.fixed.proofs.filter.with_unsigned.Statement.{statement}
+use Rattle.fixed.proofs.filter.with_unsigned.Tie as tie
 
 -- ---- the coefficient, raised
 
@@ -94,7 +94,7 @@ returns c =
     rw (coefficients-is (s .coefficients) (a .args .c) (a .pre .0 .1) (a .pre .0 .0)) (toZ-ofZ (coefficients-fit (s .coefficients) (a .args .c) (a .pre .0 .1) (a .pre .0 .0))) in
     λ t. record { i = s .i + k t * a .args .x; q = s .q + k t * a .args .y; «line_i» = s .«line_i» + a .args .x; «line_q» = s .«line_q» + a .args .y; coefficients = w t }
 
-pub with-tap-spec : {M : Type 1} → statement M
-with-tap-spec =
+pub with-unsigned-spec : {M : Type 1} → statement M
+with-unsigned-spec =
     tie.close
     (tie.spec add-k cast-k cast-k-2 mul-t9 add-t10 mul-t12 add-t13 add-t15 add-t17 add-t6 returns)

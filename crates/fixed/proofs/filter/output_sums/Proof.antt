@@ -1,4 +1,4 @@
--- `fixed::filter::row_sums` meets its contract: after n coefficients the five sums are those of n coefficients, and within bounds that 64 of them set.
+-- `fixed::filter::output_sums` meets its contract: after n coefficients the five sums are those of n coefficients, and within bounds that 64 of them set.
 -- At the end what the raising of the coefficients and of the line adds is taken off.
 use Prim.Native.Nat.{ℕ, _+_, _-_, _*_, _^_, _≤_, _<_}
 use mathlib.Core.Path.{_≡_, _∙_, subst}
@@ -15,8 +15,8 @@ use Rattle.arith.proofs.Bits.{sfit, back, held}
 use Rattle.params.specs.Judge.{magnitudes}
 use Rattle.fixed.specs.Inside.{sumOver, sumsOver}
 use Rattle.fixed.proofs.RowSums.{mag-most, mag-each, Weighed, weighed-none, weighed-more, Lifted, lifted-none, lifted-more, Lined, lined-none, lined-more, lifted-all}
-use Rattle.fixed.proofs.filter.row_sums.Statement.{statement}
-use Rattle.fixed.proofs.filter.row_sums.Tie as tie
+use Rattle.fixed.proofs.filter.output_sums.Statement.{statement}
+use Rattle.fixed.proofs.filter.output_sums.Tie as tie
 
 -- the sums of the first n coefficients over one component of the line, and that component's own
 record Part (row : List ℤ) (kept : List ℕ) (n u v : ℕ) : Type 0 where
@@ -92,23 +92,23 @@ loop-holds c =
     let a = c .before .before .args in
     (omega arith, (weighed-none (a .row .now), (nothing-yet (a .row .now) (a .i .now), nothing-yet (a .row .now) (a .q .now))))
 
-mul-with-tap : tie.Need-mul-with-tap Inv-loop μ-loop
-mul-with-tap c = search needs
+mul-with-unsigned : tie.Need-mul-with-unsigned Inv-loop μ-loop
+mul-with-unsigned c = search needs
 
-shared-slice-copy-out-with-tap : tie.Need-shared-slice-copy-out-with-tap Inv-loop μ-loop
-shared-slice-copy-out-with-tap c = search needs
+shared-slice-copy-out-with-unsigned : tie.Need-shared-slice-copy-out-with-unsigned Inv-loop μ-loop
+shared-slice-copy-out-with-unsigned c = search needs
 
-mul-with-tap-2 : tie.Need-mul-with-tap-2 Inv-loop μ-loop
-mul-with-tap-2 c = search needs
+mul-with-unsigned-2 : tie.Need-mul-with-unsigned-2 Inv-loop μ-loop
+mul-with-unsigned-2 c = search needs
 
-shared-slice-read-with-tap : tie.Need-shared-slice-read-with-tap Inv-loop μ-loop
-shared-slice-read-with-tap c = search needs
+shared-slice-read-with-unsigned : tie.Need-shared-slice-read-with-unsigned Inv-loop μ-loop
+shared-slice-read-with-unsigned c = search needs
 
-mul-with-tap-3 : tie.Need-mul-with-tap-3 Inv-loop μ-loop
-mul-with-tap-3 c = search needs
+mul-with-unsigned-3 : tie.Need-mul-with-unsigned-3 Inv-loop μ-loop
+mul-with-unsigned-3 c = search needs
 
-shared-slice-read-with-tap-2 : tie.Need-shared-slice-read-with-tap-2 Inv-loop μ-loop
-shared-slice-read-with-tap-2 c = search needs
+shared-slice-read-with-unsigned-2 : tie.Need-shared-slice-read-with-unsigned-2 Inv-loop μ-loop
+shared-slice-read-with-unsigned-2 c = search needs
 
 -- there is a coefficient left
 inside : (c : tie.In-loop Inv-loop μ-loop) → c .before .loop .n < length (c .before .before .before .before .args .row .now)
@@ -123,14 +123,14 @@ each c =
     let a = c .before .before .before .before in
     omega (arith, a .pre .light, mag-each (a .args .row .now) (c .before .loop .n) (inside c))
 
-with-tap-requires : tie.Need-with-tap-requires Inv-loop μ-loop
-with-tap-requires c κs =
+with-unsigned-requires : tie.Need-with-unsigned-requires Inv-loop μ-loop
+with-unsigned-requires c κs =
     let b = c .before .before .before .before in
     let a = b .before .before .before in
     let row = a .args .row .now in
     let l = b .loop in
     let small : natAbs (toZ w32 (ofZ w32 (getD row (l .n) (pos 0)))) ≤ 131071 =
-    rw (held w32 (getD row (l .n) (pos 0)) (c .before .before .with-tap-arg .given)) (each (c .before .before .before)) in
+    rw (held w32 (getD row (l .n) (pos 0)) (c .before .before .with-unsigned-arg .given)) (each (c .before .before .before)) in
     let pi = l .inv .1 .1 .0 in
     let pq = l .inv .1 .1 .1 in (
       (small, light row (l .n) (l .s .coefficients) (a .pre .light) (l .inv .1 .0)),
@@ -165,7 +165,7 @@ loop-again c =
     let l = b .loop in
     let n = l .n in
     let h = inside t in
-    let told = simp (held w32 (getD row n (pos 0)) (c .before .before .before .with-tap-arg .given)) at (c .with-tap .ensures) in
+    let told = simp (held w32 (getD row n (pos 0)) (c .before .before .before .with-unsigned-arg .given)) at (c .with-unsigned .ensures) in
     rw told (
       omega arith,
       (
@@ -262,20 +262,20 @@ returns c =
     let q = all (l .s .q) (l .s .«line_q») (products-q b) (line-q b) (l .s .coefficients) (weight b) (row b) (a .args .q .now) pq w in
     λ t. record { i = i t; q = q t }
 
-pub row-sums-spec : {M : Type 1} → statement M
-row-sums-spec =
+pub output-sums-spec : {M : Type 1} → statement M
+output-sums-spec =
     tie.close
     (tie.spec
     Inv-loop
     μ-loop
     loop-holds
-    mul-with-tap
-    shared-slice-copy-out-with-tap
-    mul-with-tap-2
-    shared-slice-read-with-tap
-    mul-with-tap-3
-    shared-slice-read-with-tap-2
-    with-tap-requires
+    mul-with-unsigned
+    shared-slice-copy-out-with-unsigned
+    mul-with-unsigned-2
+    shared-slice-read-with-unsigned
+    mul-with-unsigned-3
+    shared-slice-read-with-unsigned-2
+    with-unsigned-requires
     add-n
     loop-less
     loop-again
