@@ -101,20 +101,13 @@ fn output_sums(row: &[i32], i: &[u32], q: &[u32]) -> Sums
 
 // ---- all three
 
-// The sums of h, g and k, each a row. Those of h and g are zero outside the detector's places, so only these are summed. Rows of fewer than eight places are the detector's
-// throughout; told apart, the others have exactly eight, and the compiler lays their sums out without a loop.
+// The sums of h, g and k, each a row. Those of h and g are zero outside the detector's places, so only these are summed.
 pub(crate) fn filter(h: &[i32], g: &[i32], k: &[i32], i: &[u32], q: &[u32]) -> [Sums; 3]
     requires { ⌜ DetectorRow (now h) (now i) (now q) ⌝ }
     requires { ⌜ DetectorRow (now g) (now i) (now q) ⌝ }
     requires { ⌜ Row (now k) (now i) (now q) ⌝ }
     ensures { λ r. ⌜ r ≡ sumsOver (now (h .entry)) (now (i .entry)) (now (q .entry)) ∷ sumsOver (now (g .entry)) (now (i .entry)) (now (q .entry)) ∷ sumsOver (now (k .entry)) (now (i .entry)) (now (q .entry)) ∷ [] ⌝ }
 {
-    if k.len() < 8 {
-        let a = detector_sums(h, i, q);
-        let b = detector_sums(g, i, q);
-        let c = detector_sums(k, i, q);
-        return [a, b, c];
-    }
     let d = params::detector_of(k.len());
     let low = d.low;
     let high = d.high;

@@ -26,22 +26,6 @@ module _ (row : List ℤ) (i q : List ℕ) (a b taps : ℕ) (ea : a ≡ (taps - 
   middle-sums : sumsOver (take (b - a) (drop a row)) (take (b - a) (drop a i)) (take (b - a) (drop a q)) ≡ sumsOver row i q
   middle-sums = rw (spans, starts) (part-sums row i q d)
 
--- ---- rows of fewer than eight places
-
-detector-sums-requires : tie.Need-detector-sums-requires
-detector-sums-requires c κs = c .before .before .before .pre .0 .good
-
-detector-sums-requires-2 : tie.Need-detector-sums-requires-2
-detector-sums-requires-2 c κs = c .before .before .before .before .pre .1 .0 .good
-
-detector-sums-requires-3 : tie.Need-detector-sums-requires-3
-detector-sums-requires-3 c κs = c .before .before .before .before .before .pre .1 .1
-
-returns : tie.Need-returns
-returns c = λ t. c .before .before .detector-sums .ensures t ∷ c .before .detector-sums2 .ensures t ∷ c .detector-sums3 .ensures t ∷ []
-
--- ---- all others
-
 detector-of-requires : tie.Need-detector-of-requires
 detector-of-requires c κs = search needs
 
@@ -81,10 +65,10 @@ part-detector-sums-start-3 c = search needs
 part-detector-sums-end-3 : tie.Need-part-detector-sums-end-3
 part-detector-sums-end-3 c = search needs
 
-detector-sums-requires-4 : tie.Need-detector-sums-requires-4
-detector-sums-requires-4 c κs =
+detector-sums-requires : tie.Need-detector-sums-requires
+detector-sums-requires c κs =
     let b = c .before .before .before in
-    let a = b .before .before .before .before in
+    let a = b .before .before .before in
     let f = b .detector-of in
     middle-row (a .args .h .now) (a .args .i .now) (a .args .q .now) (f .result .low) (f .result .high) (length (a .args .k .now)) (f .ensures .0) (f .ensures .1) (omega arith) (a .pre .0)
 
@@ -124,25 +108,25 @@ part-detector-sums-start-6 c = search needs
 part-detector-sums-end-6 : tie.Need-part-detector-sums-end-6
 part-detector-sums-end-6 c = search needs
 
-detector-sums-requires-5 : tie.Need-detector-sums-requires-5
-detector-sums-requires-5 c κs =
+detector-sums-requires-2 : tie.Need-detector-sums-requires-2
+detector-sums-requires-2 c κs =
     let b = c .before .before .before .before .before .before .before in
-    let a = b .before .before .before .before in
+    let a = b .before .before .before in
     let f = b .detector-of in
     middle-row (a .args .g .now) (a .args .i .now) (a .args .q .now) (f .result .low) (f .result .high) (length (a .args .k .now)) (f .ensures .0) (f .ensures .1) (omega arith) (a .pre .1 .0)
 
 output-sums-requires : tie.Need-output-sums-requires
 output-sums-requires c κs = search needs
 
-returns-2 : tie.Need-returns-2
-returns-2 c =
+returns : tie.Need-returns
+returns c =
     let b = c .before .before .before .before .before .before .before .before .before in
-    let a = b .before .before .before .before in
+    let a = b .before .before .before in
     let f = b .detector-of in
     let h = middle-sums (a .args .h .now) (a .args .i .now) (a .args .q .now) (f .result .low) (f .result .high) (length (a .args .k .now)) (f .ensures .0) (f .ensures .1) (omega arith) (a .pre .0) in
     let g = middle-sums (a .args .g .now) (a .args .i .now) (a .args .q .now) (f .result .low) (f .result .high) (length (a .args .k .now)) (f .ensures .0) (f .ensures .1) (omega arith) (a .pre .1 .0) in
-    let x : c .before .before .before .before .before .detector-sums4 .result ≡ sumsOver (a .args .h .now) (a .args .i .now) (a .args .q .now) = c .before .before .before .before .before .detector-sums4 .ensures ∙ h in
-    let y : c .before .detector-sums5 .result ≡ sumsOver (a .args .g .now) (a .args .i .now) (a .args .q .now) = c .before .detector-sums5 .ensures ∙ g in
+    let x : c .before .before .before .before .before .detector-sums .result ≡ sumsOver (a .args .h .now) (a .args .i .now) (a .args .q .now) = c .before .before .before .before .before .detector-sums .ensures ∙ h in
+    let y : c .before .detector-sums2 .result ≡ sumsOver (a .args .g .now) (a .args .i .now) (a .args .q .now) = c .before .detector-sums2 .ensures ∙ g in
     let z : c .output-sums .result ≡ sumsOver (a .args .k .now) (a .args .i .now) (a .args .q .now) = c .output-sums .ensures in
     λ t. x t ∷ y t ∷ z t ∷ []
 
@@ -150,10 +134,6 @@ pub filter-spec : {M : Type 1} → statement M
 filter-spec =
     tie.close
     (tie.spec
-    detector-sums-requires
-    detector-sums-requires-2
-    detector-sums-requires-3
-    returns
     detector-of-requires
     mul-detector-sums
     sub-detector-sums
@@ -167,7 +147,7 @@ filter-spec =
     sub-detector-sums-3
     part-detector-sums-start-3
     part-detector-sums-end-3
-    detector-sums-requires-4
+    detector-sums-requires
     mul-detector-sums-4
     sub-detector-sums-4
     part-detector-sums-start-4
@@ -180,6 +160,6 @@ filter-spec =
     sub-detector-sums-6
     part-detector-sums-start-6
     part-detector-sums-end-6
-    detector-sums-requires-5
+    detector-sums-requires-2
     output-sums-requires
-    returns-2)
+    returns)
