@@ -1,0 +1,1 @@
+-- Laws of the places in which sheets and states cross.
