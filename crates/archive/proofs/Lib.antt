@@ -1,1 +1,4 @@
 -- Laws of the places in which sheets and states cross.
+pub mod OfKind
+pub mod Readable
+pub mod Twos
