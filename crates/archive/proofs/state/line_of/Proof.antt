@@ -1,7 +1,7 @@
 -- `archive::state::line_of` meets its contract: after n turns the first n places of the array hold the pairs of the state's places from 10 on.
 -- It is filled place by place (Filling), and the whole is what those places make two by two (Twos).
 use Prim.Native.Nat.{ℕ, _+_, _*_, _-_, _≤_}
-use mathlib.Core.Path.{refl}
+use mathlib.Core.Path.{_≡_, refl, subst}
 use mathlib.Core.List.{List}
 use native.Mathlib.Omega.{arith}
 use lib.ListN.{replicate}
@@ -75,8 +75,11 @@ loop-again c =
 returns : tie.Need-returns Inv-loop μ-loop
 returns c =
     let s = c .before .before in
+    let state = s .args .state .now in
     let l = c .before .loop in
-    ?
+    let all : l .n ≡ 64 = omega arith in
+    let filled = subst (λ (m : ℕ). Filled noPair (placed state) m (replicate 64 noPair) (l .line)) all (l .inv .1) in
+    filled-twos pair noPair state 10 11 64 refl refl (omega (arith, state-long state (s .pre))) filled
 
 pub line-of-spec : {M : Type 1} → statement M
 line-of-spec =

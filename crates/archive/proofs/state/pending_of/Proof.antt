@@ -1,7 +1,7 @@
 -- `archive::state::pending_of` meets its contract: after n turns the first n places of the array hold the pairs of the state's places from 138 on.
 -- It is filled place by place (Filling), and the whole is what those places make two by two (Twos).
 use Prim.Native.Nat.{ℕ, _+_, _*_, _-_, _≤_}
-use mathlib.Core.Path.{refl}
+use mathlib.Core.Path.{_≡_, refl, subst}
 use mathlib.Core.List.{List}
 use native.Mathlib.Omega.{arith}
 use lib.ListN.{replicate}
@@ -75,8 +75,11 @@ loop-again c =
 returns : tie.Need-returns Inv-loop μ-loop
 returns c =
     let s = c .before .before in
+    let state = s .args .state .now in
     let l = c .before .loop in
-    ?
+    let all : l .n ≡ 24 = omega arith in
+    let filled = subst (λ (m : ℕ). Filled noPending (placed state) m (replicate 24 noPending) (l .pending)) all (l .inv .1) in
+    filled-twos pair noPending state 138 139 24 refl refl (omega (arith, state-long state (s .pre))) filled
 
 pub pending-of-spec : {M : Type 1} → statement M
 pending-of-spec =

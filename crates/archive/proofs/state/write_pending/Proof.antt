@@ -1,85 +1,100 @@
+-- `archive::state::write_pending` meets its contract: after n turns the numbers of the first n pairs stand in the state's places from 138 on.
+-- What is before them and behind them is as it was (Twos, `paste-two`).
+use Prim.Native.Nat.{_+_, _*_, _-_, _≤_}
+use mathlib.Core.Path.{_≡_, refl, ap, _∙_}
+use mathlib.Core.List.{List, _++_, append-nil}
+use native.Mathlib.Omega.{arith}
+use lib.ListN.{length, getD, set, take, length-set, drop-of-length-le}
+use lib.Seq.{paste, paste-zero}
+use lib.IntN.{ℤ}
+use mir.Syntax.{w32, w64}
+use mir.Val.{SFits}
+use borrow.Author.Needs.{needs}
+use Rattle.arith.proofs.Bits.{widened}
+use Rattle.fixed.specs.declared.Pending.{Pending}
+use Rattle.fixed.specs.Start.{noPending}
+use Rattle.archive.specs.State.{pendingNumbers}
+use Rattle.archive.proofs.Twos.{paste-two, paste-all, widens-32}
 use Rattle.archive.proofs.state.write_pending.Statement.{statement}
 use Rattle.archive.proofs.state.write_pending.Tie as tie
-use Rattle.archive.proofs.state.write_pending.Reads as reads
-use Rattle.archive.proofs.state.write_pending.Lts as lts
 
 abbrev Inv-loop : tie.InvT-loop
-Inv-loop state₀ pending n₀ state n = ?
+Inv-loop state₀ pending n₀ state n = (n ≤ 24) × (length state ≡ length state₀) × (state ≡ paste state₀ 138 (pendingNumbers pending) (2 * n))
 
 abbrev μ-loop : tie.MeasureT-loop
-μ-loop state₀ pending n₀ state n = ?
+μ-loop state₀ pending n₀ state n = 24 - n
 
--- src/state.rt:148:5
 loop-holds : tie.Need-loop-holds Inv-loop μ-loop
-loop-holds c = ?
+loop-holds c = (search needs, refl, paste-zero (c .args .state .now) 138 (pendingNumbers (c .args .t1)))
 
--- src/state.rt:149:17
 mul-x : tie.Need-mul-x Inv-loop μ-loop
-mul-x c = ?
+mul-x c = search needs
 
--- src/state.rt:149:17
 array-copy-out-x : tie.Need-array-copy-out-x Inv-loop μ-loop
-array-copy-out-x c = ?
+array-copy-out-x c = search needs
 
--- src/state.rt:150:30
 cast-state : tie.Need-cast-state Inv-loop μ-loop
-cast-state c = ?
+cast-state c = search (widens-32, c .struct-told .given) depth 40
 
--- src/state.rt:150:21
 mul-state : tie.Need-mul-state Inv-loop μ-loop
-mul-state c = ?
+mul-state c = search needs
 
--- src/state.rt:150:15
 add-state : tie.Need-add-state Inv-loop μ-loop
-add-state c = ?
+add-state c = search needs
 
--- src/state.rt:150:9
 mul-state-2 : tie.Need-mul-state-2 Inv-loop μ-loop
-mul-state-2 c = ?
+mul-state-2 c = search needs
 
--- src/state.rt:150:9
 slice-set-from-state : tie.Need-slice-set-from-state Inv-loop μ-loop
-slice-set-from-state c = ?
+slice-set-from-state c = omega arith
 
--- src/state.rt:151:30
 cast-state-2 : tie.Need-cast-state-2 Inv-loop μ-loop
-cast-state-2 c = ?
+cast-state-2 c = search (widens-32, c .struct-told2 .given) depth 40
 
--- src/state.rt:151:21
 mul-t13 : tie.Need-mul-t13 Inv-loop μ-loop
-mul-t13 c = ?
+mul-t13 c = search needs
 
--- src/state.rt:151:15
 add-t12 : tie.Need-add-t12 Inv-loop μ-loop
-add-t12 c = ?
+add-t12 c = search needs
 
--- src/state.rt:151:9
 mul-t7 : tie.Need-mul-t7 Inv-loop μ-loop
-mul-t7 c = ?
+mul-t7 c = search needs
 
--- src/state.rt:151:9
 slice-set-from-state-2 : tie.Need-slice-set-from-state-2 Inv-loop μ-loop
-slice-set-from-state-2 c = ?
+slice-set-from-state-2 c = simp length-set (omega arith)
 
--- src/state.rt:152:9
 add-n : tie.Need-add-n Inv-loop μ-loop
-add-n c = ?
+add-n c = search needs
 
--- src/state.rt:148:5
 loop-less : tie.Need-loop-less Inv-loop μ-loop
-loop-less c = ?
+loop-less c = search needs
 
--- src/state.rt:148:5
 loop-again : tie.Need-loop-again Inv-loop μ-loop
-loop-again c = ?
+loop-again c =
+    let l = c .before .before .before .before .before .before .loop in
+    let a = c .before .before .before .before .before .before .before .args in
+    let x = getD (a .t1) (l .n) noPending in
+    let in-e : SFits w32 (x .e) = record { sfits = search (c .struct-told2 .given) depth 40 } in
+    let in-err : SFits w32 (x .err) = record { sfits = search (c .struct-told2 .given) depth 40 } in
+    let long : length (a .t1) ≡ 24 = search needs in
+    simp (widened w64 tt in-e, widened w64 tt in-err) (
+      omega arith,
+      length-set (set (l .state) (138 + 2 * l .n) (x .e)) (139 + 2 * l .n) (x .err) ∙ length-set (l .state) (138 + 2 * l .n) (x .e) ∙ l .inv .1,
+      rw (l .inv .2) (paste-two (λ (y : Pending). y .e) (λ (y : Pending). y .err) (a .state .now) 138 139 noPending (a .t1) (l .n) refl (omega arith) (omega arith)),
+    )
 
--- src/state.rt:143:1
 same-length : tie.Need-same-length Inv-loop μ-loop
-same-length c = ?
+same-length c = c .before .loop .inv .1
 
--- src/state.rt:143:1
 returns : tie.Need-returns Inv-loop μ-loop
-returns c = ?
+returns c =
+    let a = c .before .before .args in
+    let l = c .before .loop in
+    let e : l .n ≡ 24 = omega arith in
+    let y = pendingNumbers (a .t1) in
+    rw e at (l .inv .2) ∙ paste-all (λ (y : Pending). y .e) (λ (y : Pending). y .err) (a .state .now) 138 (a .t1) 24 (search needs)
+    ∙ ap (λ (rest : List ℤ). take 138 (a .state .now) ++ (y ++ rest)) (drop-of-length-le (a .state .now) {i = 186} (omega arith))
+    ∙ ap (λ (rest : List ℤ). take 138 (a .state .now) ++ rest) (append-nil y)
 
 pub write-pending-spec : {M : Type 1} → statement M
 write-pending-spec =
