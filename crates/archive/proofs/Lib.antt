@@ -2,3 +2,4 @@
 pub mod OfKind
 pub mod Readable
 pub mod Twos
+pub mod Answers
