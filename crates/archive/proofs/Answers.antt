@@ -1,34 +1,32 @@
 -- How answers cross: the first number that is not 0, places that are written only where nothing is refused, numbers below zero, and what a block's answer
 -- leaves that fits places again.
-use Prim.Native.Nat.{ℕ, _+_, _/_, _≤_, _<_, min}
-use mathlib.Core.Path.{_≡_, refl, sym, ap, _∙_}
+use Prim.Native.Nat.{ℕ, _^_, _≤_, _<_}
+use mathlib.Core.Path.{_≡_, refl, sym, _∙_}
 use mathlib.Core.Bool.{Bool, true, false}
-use mathlib.Core.List.{List, [], _∷_, _++_}
+use mathlib.Core.List.{List, [], _∷_}
 use native.Mathlib.Omega.{arith}
 use lib.Dec.{eqb}
 use lib.ListN.{length, length-append}
-use lib.IntN.{ℤ, pos, negℤ, natAbs, _-ℤ_, +ℤ-idl}
-use mir.Syntax.{w32, w64}
-use mir.Val.{Fits, SFits, toZ, ofZ}
+use lib.IntN.{ℤ, pos, negℤ, _-ℤ_, +ℤ-idl}
+use mir.Syntax.{w64}
+use mir.Val.{SFits, toZ, ofZ}
 use mir.Facts.{toZ-ofZ}
 use borrow.Author.Tests.{eq-eqb, ne-eqb, eqb-true, eqb-false}
 use Rattle.arith.proofs.Magnitude.{abs-neg}
 use Rattle.arith.proofs.Bits.{sfit, whole}
-use Rattle.params.specs.Refusal.{Refusal}
 use Rattle.params.specs.Judge.{Sheet, firstOf, judged}
 use Rattle.params.proofs.Faults.{first-none}
 use Rattle.fixed.specs.declared.Pair.{Pair}
 use Rattle.fixed.specs.declared.Frontend.{Frontend}
-use Rattle.fixed.specs.declared.Symbol.{Symbol}
-use Rattle.fixed.specs.Start.{Start, startOf, fresh}
+use Rattle.fixed.specs.Start.{startOf, fresh}
 use Rattle.fixed.specs.Sample.{falls, madeBy, next, after, emitted}
 use Rattle.fixed.specs.Block.{Block, blockFaults, pairsOf, accepted, blockOf}
 use Rattle.fixed.proofs.States.{Going, going, run-going}
 use Rattle.fixed.proofs.Invariant.{run-samples}
 use Rattle.fixed.proofs.Turns.{pairs-long}
 use Rattle.fixed.proofs.Verdicts.{block-numbered, Faultless, faultless}
-use Rattle.archive.specs.State.{Placed, numbersOf}
-use Rattle.archive.specs.Calls.{first, Answer, answered}
+use Rattle.archive.specs.State.{stateFits, Placed}
+use Rattle.archive.specs.Calls.{first, Answer, answered, stateNumber}
 
 -- ---- numbers of refusals
 
@@ -37,6 +35,28 @@ first-is a b h e = rw (ne-eqb a 0 (λ z. h (e ∙ z))) e
 
 pub then-is : (a b : ℕ) {n : ℕ} → a ≡ 0 → n ≡ b → n ≡ first a b
 then-is a b z e = rw (eq-eqb a 0 z) e
+
+-- 9 is not 0, and neither is what comes before it
+nine : (a : ℕ) {n : ℕ} → n ≡ first a 9 → n ≡ 0 → ⊥
+nine a is z = go (eqb a 0) refl
+  where
+    go : (b : Bool) → eqb a 0 ≡ b → ⊥
+    go true e = let n : _≡_ {A = ℕ} 9 0 = rw e at (sym is ∙ z) in omega arith
+    go false e = eqb-false a 0 e (rw e at (sym is ∙ z))
+
+-- ---- places that are those of a state, and those that are not
+
+pub state-number : (s : Sheet) (state : List ℤ) → stateFits state ≡ true → stateNumber s state ≡ 0
+unfolding stateNumber
+state-number s state e = rw e refl
+
+pub record NoState (s : Sheet) (state : List ℤ) (n : ℕ) : Type 0 where
+  pub is : n ≡ stateNumber s state
+  pub some : n ≡ 0 → ⊥
+
+pub no-state : (s : Sheet) (state : List ℤ) {n : ℕ} → stateFits state ≡ false → n ≡ first (judged s .number) 9 → NoState s state n
+unfolding stateNumber
+no-state s state e is = record { is = rw e is; some = nine (judged s .number) is }
 
 -- ---- places that are lent for an answer
 
@@ -48,13 +68,13 @@ writes number written places z e = rw (eq-eqb number 0 (sym z)) (λ i. record { 
 
 -- ---- a number below zero
 
-pub minus-is : (n : ℕ) → Fits w32 n → pos 0 -ℤ toZ w64 n ≡ negℤ (pos n)
-minus-is n f = rw (whole n f) (+ℤ-idl (negℤ (pos n)))
+minus-is : (n : ℕ) → n < 2 ^ 32 → pos 0 -ℤ toZ w64 n ≡ negℤ (pos n)
+minus-is n f = rw (whole n (record { fits = f })) (+ℤ-idl (negℤ (pos n)))
 
-pub minus-fits : (n : ℕ) → Fits w32 n → SFits w64 (pos 0 -ℤ toZ w64 n)
-minus-fits n f = rw (minus-is n f) (sfit (omega (arith, abs-neg (pos n), f .fits)))
+pub minus-fits : (n : ℕ) → n < 2 ^ 32 → SFits w64 (pos 0 -ℤ toZ w64 n)
+minus-fits n f = rw (minus-is n f) (sfit (omega (arith, abs-neg (pos n))))
 
-pub minus-read : (n : ℕ) → Fits w32 n → toZ w64 (ofZ w64 (pos 0 -ℤ toZ w64 n)) ≡ negℤ (pos n)
+pub minus-read : (n : ℕ) → n < 2 ^ 32 → toZ w64 (ofZ w64 (pos 0 -ℤ toZ w64 n)) ≡ negℤ (pos n)
 minus-read n f = toZ-ofZ (minus-fits n f) ∙ minus-is n f
 
 -- ---- a state that starting gives has places
@@ -83,6 +103,11 @@ unfolding emitted
 few s f [] = omega arith
 few s f (x ∷ xs) = omega (arith, length-append (madeBy s f x) (emitted s (next s f x) xs), made-few s f x, few s (next s f x) xs)
 
+-- what a block without a refusal leaves
+pub record Left (b : Block) : Type 0 where
+  pub placed : Placed (b .state)
+  pub counted : b .count ≤ 9223372036854775807
+
 module _ (s : Sheet) (f : Frontend) (values out : List ℤ) where
   -- a number other than 0: nothing was written
   pub untouched : (blockOf s f values out .refused .number ≡ 0 → ⊥) → blockOf s f values out .output ≡ out
@@ -104,11 +129,6 @@ module _ (s : Sheet) (f : Frontend) (values out : List ℤ) where
   ran : blockOf s f values out .refused .number ≡ 0 → blockOf s f values out ≡ accepted s f values out
   unfolding blockOf
   ran h = rw (no-faults h) refl
-
-  -- what a block without a refusal leaves
-  pub record Left (b : Block) : Type 0 where
-    pub placed : Placed (b .state)
-    pub counted : b .count ≤ 9223372036854775807
 
   pub left : blockOf s f values out .refused .number ≡ 0 → Left (blockOf s f values out)
   unfolding accepted
