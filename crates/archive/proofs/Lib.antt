@@ -3,3 +3,4 @@ pub mod OfKind
 pub mod Readable
 pub mod Twos
 pub mod Answers
+pub mod Crossing

@@ -12,7 +12,7 @@ use lib.IntN.{ℤ, pos, natAbs}
 use lib.Signed.{leZ, nonNeg}
 use mir.Syntax.{Width, w8, w16, w32, w64}
 use mir.Val.{Fits, SFits}
-use Rattle.arith.proofs.Order.{P, N, le-pn, pn-fit, unsign}
+use Rattle.arith.proofs.Order.{P, N, nat-pn, le-pn, pn-fit, unsign}
 use Rattle.archive.specs.Places.{at, u8, u32, i16, i32, count, least, most, isKind, areKinds, KindAt}
 
 -- ---- two tests, of which both hold
@@ -56,6 +56,12 @@ is-u32 z e = unsign w32 z (omega (arith, least-of u32 z e)) (omega (arith, most-
 pub is-count : (z : ℤ) → isKind count z ≡ true → Natural w64 z
 unfolding least most
 is-count z e = unsign w64 z (omega (arith, least-of count z e)) (omega (arith, most-of count z e))
+
+pub count-small : (z : ℤ) → isKind count z ≡ true → natAbs z ≤ 9223372036854775807
+unfolding least most
+count-small z e =
+    let low : N z ≤ P z = omega (arith, least-of count z e) in
+    omega (arith, nat-pn z low, most-of count z e)
 
 pub is-i16 : (z : ℤ) → isKind i16 z ≡ true → SFits w16 z
 unfolding least most

@@ -11,7 +11,7 @@ mod state;
 use params::Params;
 ghost use mathlib.Core.Path.{_≡_};
 ghost use Rattle.params.specs.Judge.{sheetOf, judged};
-ghost use Rattle.archive.specs.Calls.{first, judgeNumber, startAnswer, blockAnswer};
+ghost use Rattle.archive.specs.Calls.{first, judgeNumber, startAnswer, blockAnswer, readAnswer, offsetAnswer};
 
 // The number of the sheet's first fault, or 0 (document 01: judging).
 #[no_mangle]
@@ -98,4 +98,69 @@ pub extern "C" fn huntelm_block(
     let after = done.state;
     state::write(after, &mut *state);
     done.count as i64
+}
+
+// Writes period, gain and symbols of a state to three places (document 01: reading).
+#[no_mangle]
+pub extern "C" fn huntelm_read(
+    sheet: &[i64],
+    h: &[i32],
+    g: &[i32],
+    k: &[i32],
+    state: &[i64],
+    answer: &mut [i64],
+) -> u32
+    ensures { λ r. ⌜ record { number = r; places = now (answer .exit) } ≡ readAnswer (now (sheet .entry)) (now (h .entry)) (now (g .entry)) (now (k .entry)) (now (state .entry)) (now (answer .entry)) ⌝ }
+{
+    let unread = sheet::fault(sheet);
+    if unread != 0 {
+        return unread;
+    }
+    let p = sheet::params_of(sheet);
+    if !state::fits(state) {
+        return no_state(p, h, g, k);
+    }
+    let reading = state::read(state).read(p, h, g, k);
+    let verdict = reading.verdict;
+    let refused = number::of_frontend(verdict);
+    if refused != 0 {
+        return refused;
+    }
+    if answer.len() < 3 {
+        return 11;
+    }
+    answer[0] = reading.period as i64;
+    answer[1] = reading.gain as i64;
+    answer[2] = reading.symbols as i64;
+    0
+}
+
+// Writes the offset of a period to one place (document 01: the offset).
+#[no_mangle]
+pub extern "C" fn huntelm_offset(
+    sheet: &[i64],
+    h: &[i32],
+    g: &[i32],
+    k: &[i32],
+    period: u32,
+    answer: &mut [i64],
+) -> u32
+    ensures { λ r. ⌜ record { number = r; places = now (answer .exit) } ≡ offsetAnswer (now (sheet .entry)) (now (h .entry)) (now (g .entry)) (now (k .entry)) period (now (answer .entry)) ⌝ }
+{
+    let unread = sheet::fault(sheet);
+    if unread != 0 {
+        return unread;
+    }
+    let offset = sheet::params_of(sheet).offset(h, g, k, period);
+    let verdict = offset.verdict;
+    let refused = number::of_offset(verdict);
+    if refused != 0 {
+        return refused;
+    }
+    if answer.len() < 1 {
+        return 11;
+    }
+    let parts = offset.parts;
+    answer[0] = parts;
+    0
 }
