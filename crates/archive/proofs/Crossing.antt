@@ -1,20 +1,22 @@
 -- States cross unchanged. A place without its sign is the place where it has none, and two by two taken apart and put together undo each other (Twos).
 use Prim.Native.Nat.{ℕ, suc, _*_, _%_, _<_}
-use mathlib.Core.Path.{_≡_, refl, sym, ap, _∙_}
-use mathlib.Core.Bool.{true}
-use mathlib.Core.List.{List, _∷_, _++_}
+use mathlib.Core.Path.{_≡_, refl, sym, ap, subst, _∙_}
+use mathlib.Core.Bool.{Bool, true, _&&_}
+use mathlib.Core.List.{List, [], _∷_, _++_, append-nil}
 use native.Mathlib.Omega.{arith}
 use lib.Dec.{lit<}
-use lib.ListN.{length, getD, take, drop, length-drop, take-append-drop}
+use lib.ListN.{length, getD, take, drop, replicate, length-append, length-drop, take-append-drop}
 use lib.Seq.{take-all, take-at, drop-at, drop-cons, length-take-le, drop-drop}
 use lib.IntN.{ℤ, pos, natAbs}
 use lib.Signed.{pos-natAbs}
+use borrow.Author.Tests.{eq-eqb}
 use Rattle.fixed.specs.declared.Pair.{Pair}
 use Rattle.fixed.specs.declared.Pending.{Pending}
 use Rattle.fixed.specs.declared.Frontend.{Frontend}
-use Rattle.archive.specs.Places.{at, u32, count, isKind}
-use Rattle.archive.specs.State.{lineOf, pendingOf, lineNumbers, pendingNumbers, stateFits, stateOf, numbersOf}
-use Rattle.archive.specs.Crossing.{Whole, StatesCross}
+use Rattle.fixed.specs.Start.{noPair, noPending}
+use Rattle.archive.specs.Places.{at, u32, i32, count, isKind, areKinds}
+use Rattle.archive.specs.State.{untwos, lineOf, pendingOf, lineNumbers, pendingNumbers, stateKinds, stateFits, stateOf, numbersOf}
+use Rattle.archive.specs.Crossing.{Whole, Typed, StatesCross}
 use Rattle.archive.proofs.OfKind.{is-u32, is-count}
 use Rattle.archive.proofs.Readable.{state-long, firstKinds, state-at}
 use Rattle.archive.proofs.Twos.{untwos-long, twos-untwos, untwos-twos}
@@ -48,7 +50,8 @@ back f w =
     let pending : List ℤ = pendingNumbers (f .pending) in
     let long : length line ≡ 128 = omega (arith, line-long (f .line), w .line) in
     let in-line : take 128 (drop 10 (numbersOf f)) ≡ line = take-at line pending 128 long in
-    let in-pending : take 48 (drop 138 (numbersOf f)) ≡ pending = ap (take 48) (drop-at line pending 128 long) ∙ take-all 48 pending (omega (arith, pending-long (f .pending), w .pending)) in
+    let in-pending : take 48 (drop 138 (numbersOf f)) ≡ pending =
+    ap (take 48) (drop-at line pending 128 long) ∙ take-all 48 pending (omega (arith, pending-long (f .pending), w .pending)) in
     λ i.
     record {
       registers = f .registers;
@@ -59,6 +62,44 @@ back f w =
       waiting = f .waiting;
       samples = f .samples;
     }
+
+-- ---- what was written fits
+
+-- two tests, of which both hold
+both : {a b : Bool} → a ≡ true → b ≡ true → (a && b) ≡ true
+both {a} {b} e k = ap (λ (t : Bool). t && b) e ∙ k
+
+module _ {A : Type 0} (first second : A → ℤ) (d : A) where
+  -- numbers of one kind in front of others
+  pairs-fit : (kind : ℕ) (xs : List A) (kinds : List ℕ) (l : List ℤ) → ((n : ℕ) → isKind kind (first (getD xs n d)) ≡ true) → ((n : ℕ) → isKind kind (second (getD xs n d)) ≡ true)
+      → areKinds kinds l ≡ true → areKinds (replicate (2 * length xs) kind ++ kinds) (untwos first second xs ++ l) ≡ true
+  unfolding areKinds untwos
+  pairs-fit kind [] kinds l a b e = e
+  pairs-fit kind (x ∷ xs) kinds l a b e =
+      let two : 2 * length (x ∷ xs) ≡ suc (suc (2 * length xs)) = omega arith in
+      rw two (both (a 0) (both (b 0) (pairs-fit kind xs kinds l (λ n. a (suc n)) (λ n. b (suc n)) e)))
+
+behind-fit : (f : Frontend) → Whole f → Typed f → areKinds (replicate 176 i32) (lineNumbers (f .line) ++ pendingNumbers (f .pending)) ≡ true
+unfolding areKinds
+behind-fit f w t =
+    let line : List ℤ = lineNumbers (f .line) in
+    let pending : List ℤ = pendingNumbers (f .pending) in
+    let last = pairs-fit (λ (x : Pending). x .e) (λ (x : Pending). x .err) noPending i32 (f .pending) [] [] (t .timing) (t .gains) refl in
+    let of-24 : areKinds (replicate 48 i32) (pending ++ []) ≡ true =
+    subst (λ (n : ℕ). areKinds (replicate (2 * n) i32 ++ []) (pending ++ []) ≡ true) (w .pending) last in
+    let rest : areKinds (replicate 48 i32) pending ≡ true = subst (λ (l : List ℤ). areKinds (replicate 48 i32) l ≡ true) (append-nil pending) of-24 in
+    subst (λ (n : ℕ). areKinds (replicate (2 * n) i32 ++ replicate 48 i32) (line ++ pending) ≡ true) (w .line)
+    (pairs-fit (λ (x : Pair). x .i) (λ (x : Pair). x .q) noPair i32 (f .line) (replicate 48 i32) pending (t .in-phase) (t .quadrature) rest)
+
+fit : (f : Frontend) → Whole f → Typed f → stateFits (numbersOf f) ≡ true
+unfolding stateFits stateKinds numbersOf areKinds
+fit f w t =
+    let line : List ℤ = lineNumbers (f .line) in
+    let pending : List ℤ = pendingNumbers (f .pending) in
+    let long : length (numbersOf f) ≡ 186 = omega (arith, length-append line pending, line-long (f .line), pending-long (f .pending), w .line, w .pending) in
+    both (eq-eqb (length (numbersOf f)) 186 long)
+    (both (t .nco) (both (t .time) (both (t .integrator) (both (t .period) (both (t .gain) (both (t .symbols)
+    (both (t .head) (both (t .oldest) (both (t .waiting) (both (t .samples) (behind-fit f w t)))))))))))
 
 -- ---- read and written
 
@@ -102,4 +143,4 @@ module _ (l : List ℤ) (fits : stateFits l ≡ true) where
       (front 9 (lit< tt) (counts 9 (kind 9 (lit< tt))) behind)))))))))
 
 pub states-cross : StatesCross
-states-cross = record { back = back; again = again }
+states-cross = record { back = back; fit = fit; again = again }

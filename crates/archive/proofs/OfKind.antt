@@ -1,12 +1,12 @@
 -- Numbers of a kind: they fit the kind's type, and places that were looked at one after the other have each their kind.
 use Prim.Native.Nat.{ℕ, zero, suc, _+_, _<_, _≤_}
-use mathlib.Core.Path.{_≡_, refl, sym, ap, _∙_}
+use mathlib.Core.Path.{_≡_, refl}
 use mathlib.Core.Bool.{Bool, true, false, _&&_}
 use mathlib.Core.List.{List, [], _∷_}
 use native.Mathlib.Omega.{arith}
 use native.Mathlib.Numerals.{add-one}
 use lib.Dec.{T}
-use lib.ListN.{length, getD, drop, length-drop}
+use lib.ListN.{length, getD, drop}
 use lib.Seq.{drop-cons}
 use lib.IntN.{ℤ, pos, natAbs}
 use lib.Signed.{leZ, nonNeg}

@@ -6,10 +6,15 @@ ghost use Rattle.archive.specs.Places.{at, u8 as kindU8, u32 as kindU32,
 
 // The kinds of fields. A count is unsigned of 64 bits; a place takes the lower half of these.
 pub(crate) const U8: u8 = 0;
+
 pub(crate) const U32: u8 = 1;
+
 pub(crate) const I16: u8 = 2;
+
 pub(crate) const I32: u8 = 3;
+
 pub(crate) const I64: u8 = 4;
+
 pub(crate) const COUNT: u8 = 5;
 
 // The least number of a kind.

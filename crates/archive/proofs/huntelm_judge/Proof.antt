@@ -1,5 +1,5 @@
 -- `archive::huntelm_judge` meets its contract: a sheet that cannot be read answers for itself, and one that can is judged.
-use mathlib.Core.Path.{_≡_, sym, ap, _∙_}
+use mathlib.Core.Path.{sym, ap, _∙_}
 use borrow.Author.Needs.{needs}
 use Rattle.params.specs.declared.Params.{Params}
 use Rattle.params.specs.Refusal.{Refusal}

@@ -1,7 +1,7 @@
 -- `archive::huntelm_read` meets its contract: it refuses in the definition's order, and writes period, gain and symbols where nothing is refused.
 -- The symbols of a state that was read from places fit a place again.
 use Prim.Native.Nat.{ℕ, _≤_}
-use mathlib.Core.Path.{_≡_, refl, sym, ap, subst, _∙_}
+use mathlib.Core.Path.{_≡_, refl, sym, ap, _∙_}
 use mathlib.Core.Bool.{Bool, true, false, cond}
 use mathlib.Core.List.{List, [], _∷_}
 use native.Mathlib.Omega.{arith}

@@ -1,8 +1,7 @@
 -- `archive::no_state` meets its contract: a refusal of judging answers for itself, and 9 where there is none.
-use mathlib.Core.Path.{_≡_, refl, sym, ap, _∙_}
+use mathlib.Core.Path.{_≡_, ap, _∙_}
 use borrow.Author.Needs.{needs}
 use borrow.Author.Tests.{eq-eqb, ne-eqb}
-use Prim.Native.Nat.{ℕ}
 use Rattle.params.specs.Refusal.{Refusal}
 use Rattle.params.specs.Judge.{sheetOf, judged}
 use Rattle.archive.proofs.no_state.Statement.{statement}

@@ -101,7 +101,8 @@ returns c =
     let s = k .before .before .before .before in
     let told = k .before .struct-told2 .given in
     let known = c .struct-known8 .given in
-    stored (s .args .f) (s .args .state .now) (search told depth 40) (search told depth 40) (search known depth 40) (search known depth 40) (search known depth 40) (s .pre .1) (s .pre .0)
+    stored (s .args .f) (s .args .state .now) (search told depth 40) (search told depth 40) (search known depth 40) (search known depth 40) (search known depth 40)
+    (s .pre .1) (s .pre .0)
 
 pub write-first-spec : {M : Type 1} → statement M
 write-first-spec =
