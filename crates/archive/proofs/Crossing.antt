@@ -1,0 +1,146 @@
+-- States cross unchanged. A place without its sign is the place where it has none, and two by two taken apart and put together undo each other (Twos).
+use Prim.Native.Nat.{ℕ, suc, _*_, _%_, _<_}
+use mathlib.Core.Path.{_≡_, refl, sym, ap, subst, _∙_}
+use mathlib.Core.Bool.{Bool, true, _&&_}
+use mathlib.Core.List.{List, [], _∷_, _++_, append-nil}
+use native.Mathlib.Omega.{arith}
+use lib.Dec.{lit<}
+use lib.ListN.{length, getD, take, drop, replicate, length-append, length-drop, take-append-drop}
+use lib.Seq.{take-all, take-at, drop-at, drop-cons, length-take-le, drop-drop}
+use lib.IntN.{ℤ, pos, natAbs}
+use lib.Signed.{pos-natAbs}
+use borrow.Author.Tests.{eq-eqb}
+use Rattle.fixed.specs.declared.Pair.{Pair}
+use Rattle.fixed.specs.declared.Pending.{Pending}
+use Rattle.fixed.specs.declared.Frontend.{Frontend}
+use Rattle.fixed.specs.Start.{noPair, noPending}
+use Rattle.archive.specs.Places.{at, u32, i32, count, isKind, areKinds}
+use Rattle.archive.specs.State.{untwos, lineOf, pendingOf, lineNumbers, pendingNumbers, stateKinds, stateFits, stateOf, numbersOf}
+use Rattle.archive.specs.Crossing.{Whole, Typed, StatesCross}
+use Rattle.archive.proofs.OfKind.{is-u32, is-count}
+use Rattle.archive.proofs.Readable.{state-long, firstKinds, state-at}
+use Rattle.archive.proofs.Twos.{untwos-long, twos-untwos, untwos-twos}
+
+-- ---- the pairs
+
+line-long : (line : List Pair) → length (lineNumbers line) ≡ 2 * length line
+line-long = untwos-long (λ (x : Pair). x .i) (λ (x : Pair). x .q)
+
+line-back : (line : List Pair) → lineOf (lineNumbers line) ≡ line
+line-back = twos-untwos (λ a b. record { i = a; q = b }) (λ (x : Pair). x .i) (λ (x : Pair). x .q) (λ x. refl)
+
+line-again : (l : List ℤ) → length l % 2 ≡ 0 → lineNumbers (lineOf l) ≡ l
+line-again = untwos-twos (λ a b. record { i = a; q = b }) (λ (x : Pair). x .i) (λ (x : Pair). x .q) (λ a b. refl) (λ a b. refl)
+
+pending-long : (pending : List Pending) → length (pendingNumbers pending) ≡ 2 * length pending
+pending-long = untwos-long (λ (x : Pending). x .e) (λ (x : Pending). x .err)
+
+pending-back : (pending : List Pending) → pendingOf (pendingNumbers pending) ≡ pending
+pending-back = twos-untwos (λ a b. record { e = a; err = b }) (λ (x : Pending). x .e) (λ (x : Pending). x .err) (λ x. refl)
+
+pending-again : (l : List ℤ) → length l % 2 ≡ 0 → pendingNumbers (pendingOf l) ≡ l
+pending-again = untwos-twos (λ a b. record { e = a; err = b }) (λ (x : Pending). x .e) (λ (x : Pending). x .err) (λ a b. refl) (λ a b. refl)
+
+-- ---- written and read
+
+back : (f : Frontend) → Whole f → stateOf (numbersOf f) ≡ f
+unfolding stateOf numbersOf
+back f w =
+    let line : List ℤ = lineNumbers (f .line) in
+    let pending : List ℤ = pendingNumbers (f .pending) in
+    let long : length line ≡ 128 = omega (arith, line-long (f .line), w .line) in
+    let in-line : take 128 (drop 10 (numbersOf f)) ≡ line = take-at line pending 128 long in
+    let in-pending : take 48 (drop 138 (numbersOf f)) ≡ pending =
+    ap (take 48) (drop-at line pending 128 long) ∙ take-all 48 pending (omega (arith, pending-long (f .pending), w .pending)) in
+    λ i.
+    record {
+      registers = f .registers;
+      line = (ap lineOf in-line ∙ line-back (f .line)) i;
+      head = f .head;
+      pending = (ap pendingOf in-pending ∙ pending-back (f .pending)) i;
+      oldest = f .oldest;
+      waiting = f .waiting;
+      samples = f .samples;
+    }
+
+-- ---- what was written fits
+
+-- two tests, of which both hold
+both : {a b : Bool} → a ≡ true → b ≡ true → (a && b) ≡ true
+both {a} {b} e k = ap (λ (t : Bool). t && b) e ∙ k
+
+module _ {A : Type 0} (first second : A → ℤ) (d : A) where
+  -- numbers of one kind in front of others
+  pairs-fit : (kind : ℕ) (xs : List A) (kinds : List ℕ) (l : List ℤ) → ((n : ℕ) → isKind kind (first (getD xs n d)) ≡ true) → ((n : ℕ) → isKind kind (second (getD xs n d)) ≡ true)
+      → areKinds kinds l ≡ true → areKinds (replicate (2 * length xs) kind ++ kinds) (untwos first second xs ++ l) ≡ true
+  unfolding areKinds untwos
+  pairs-fit kind [] kinds l a b e = e
+  pairs-fit kind (x ∷ xs) kinds l a b e =
+      let two : 2 * length (x ∷ xs) ≡ suc (suc (2 * length xs)) = omega arith in
+      rw two (both (a 0) (both (b 0) (pairs-fit kind xs kinds l (λ n. a (suc n)) (λ n. b (suc n)) e)))
+
+behind-fit : (f : Frontend) → Whole f → Typed f → areKinds (replicate 176 i32) (lineNumbers (f .line) ++ pendingNumbers (f .pending)) ≡ true
+unfolding areKinds
+behind-fit f w t =
+    let line : List ℤ = lineNumbers (f .line) in
+    let pending : List ℤ = pendingNumbers (f .pending) in
+    let last = pairs-fit (λ (x : Pending). x .e) (λ (x : Pending). x .err) noPending i32 (f .pending) [] [] (t .timing) (t .gains) refl in
+    let of-24 : areKinds (replicate 48 i32) (pending ++ []) ≡ true =
+    subst (λ (n : ℕ). areKinds (replicate (2 * n) i32 ++ []) (pending ++ []) ≡ true) (w .pending) last in
+    let rest : areKinds (replicate 48 i32) pending ≡ true = subst (λ (l : List ℤ). areKinds (replicate 48 i32) l ≡ true) (append-nil pending) of-24 in
+    subst (λ (n : ℕ). areKinds (replicate (2 * n) i32 ++ replicate 48 i32) (line ++ pending) ≡ true) (w .line)
+    (pairs-fit (λ (x : Pair). x .i) (λ (x : Pair). x .q) noPair i32 (f .line) (replicate 48 i32) pending (t .in-phase) (t .quadrature) rest)
+
+fit : (f : Frontend) → Whole f → Typed f → stateFits (numbersOf f) ≡ true
+unfolding stateFits stateKinds numbersOf areKinds
+fit f w t =
+    let line : List ℤ = lineNumbers (f .line) in
+    let pending : List ℤ = pendingNumbers (f .pending) in
+    let long : length (numbersOf f) ≡ 186 = omega (arith, length-append line pending, line-long (f .line), pending-long (f .pending), w .line, w .pending) in
+    both (eq-eqb (length (numbersOf f)) 186 long)
+    (both (t .nco) (both (t .time) (both (t .integrator) (both (t .period) (both (t .gain) (both (t .symbols)
+    (both (t .head) (both (t .oldest) (both (t .waiting) (both (t .samples) (behind-fit f w t)))))))))))
+
+-- ---- read and written
+
+module _ (l : List ℤ) (fits : stateFits l ≡ true) where
+  -- a place in front of those behind it
+  front : (n : ℕ) → n < 10 → {z : ℤ} {rest : List ℤ} → z ≡ at l n → rest ≡ drop (suc n) l → z ∷ rest ≡ drop n l
+  front n h e k = (λ i. e i ∷ k i) ∙ sym (drop-cons l n (pos 0) (omega (arith, state-long l fits)))
+
+  kind : (n : ℕ) → n < 10 → isKind (getD firstKinds n 0) (at l n) ≡ true
+  kind n h = state-at l fits n h .is
+
+  -- a place of an unsigned field
+  word : (n : ℕ) → isKind u32 (at l n) ≡ true → pos (natAbs (at l n)) ≡ at l n
+  word n is = pos-natAbs (at l n) (is-u32 (at l n) is .0)
+
+  counts : (n : ℕ) → isKind count (at l n) ≡ true → pos (natAbs (at l n)) ≡ at l n
+  counts n is = pos-natAbs (at l n) (is-count (at l n) is .0)
+
+  -- the pairs
+  behind : lineNumbers (lineOf (take 128 (drop 10 l))) ++ pendingNumbers (pendingOf (take 48 (drop 138 l))) ≡ drop 10 l
+  behind =
+      let line : List ℤ = take 128 (drop 10 l) in
+      let pending : List ℤ = drop 138 l in
+      let long-line : length line ≡ 128 = length-take-le 128 (drop 10 l) (omega (arith, length-drop 10 l, state-long l fits)) in
+      let long-pending : length pending ≡ 48 = omega (arith, length-drop 138 l, state-long l fits) in
+      let all : take 48 pending ≡ pending = take-all 48 pending (omega arith) in
+      rw (line-again line (omega arith), all, pending-again pending (omega arith), ← drop-drop 128 10 l) (take-append-drop 128 (drop 10 l))
+
+  again : numbersOf (stateOf l) ≡ l
+  unfolding stateOf numbersOf
+  again =
+      front 0 (lit< tt) (word 0 (kind 0 (lit< tt)))
+      (front 1 (lit< tt) refl
+      (front 2 (lit< tt) refl
+      (front 3 (lit< tt) (word 3 (kind 3 (lit< tt)))
+      (front 4 (lit< tt) (word 4 (kind 4 (lit< tt)))
+      (front 5 (lit< tt) (counts 5 (kind 5 (lit< tt)))
+      (front 6 (lit< tt) (counts 6 (kind 6 (lit< tt)))
+      (front 7 (lit< tt) (counts 7 (kind 7 (lit< tt)))
+      (front 8 (lit< tt) (counts 8 (kind 8 (lit< tt)))
+      (front 9 (lit< tt) (counts 9 (kind 9 (lit< tt))) behind)))))))))
+
+pub states-cross : StatesCross
+states-cross = record { back = back; fit = fit; again = again }

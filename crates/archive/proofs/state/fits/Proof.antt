@@ -1,0 +1,34 @@
+-- `archive::state::fits` meets its contract: it asks for the number of places, then for their kinds, as the definition does.
+use mathlib.Core.Path.{refl, ap, _∙_}
+use mathlib.Core.List.{List}
+use lib.ListN.{length}
+use Prim.Native.Nat.{ℕ}
+use borrow.Author.Needs.{needs}
+use borrow.Author.Tests.{eq-eqb, ne-eqb}
+use Rattle.archive.specs.Places.{areKinds}
+use Rattle.archive.specs.State.{stateFits}
+use Rattle.archive.proofs.state.fits.Statement.{statement}
+use Rattle.archive.proofs.state.fits.Tie as tie
+
+returns : tie.Need-returns
+unfolding stateFits
+returns c = rw (ne-eqb (length (c .before .args .state .now)) 186 (c .if1 .taken)) refl
+
+kinds-requires : tie.Need-kinds-requires
+kinds-requires c κs = search needs
+
+slice-aggregate-are-kinds : tie.Need-slice-aggregate-are-kinds
+slice-aggregate-are-kinds c = search needs
+
+are-kinds-requires : tie.Need-are-kinds-requires
+are-kinds-requires c κs = search needs
+
+returns-2 : tie.Need-returns-2
+unfolding stateFits
+returns-2 c =
+    let s = c .before .before .before in
+    let state = s .before .args .state .now in
+    rw (eq-eqb (length state) 186 (s .if1 .left)) (c .are-kinds .ensures ∙ ap (λ (kinds : List ℕ). areKinds kinds state) (c .before .before .kinds .ensures))
+
+pub fits-spec : {M : Type 1} → statement M
+fits-spec = tie.close (tie.spec returns kinds-requires slice-aggregate-are-kinds are-kinds-requires returns-2)

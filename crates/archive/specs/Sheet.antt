@@ -1,0 +1,42 @@
+-- A sheet as 17 places, its fields in the order in which document 01 lists them.
+-- (Document 01, 'The sheet': the fields and their types. That a sheet crosses as places is ours.)
+use Prim.Native.Nat.{ℕ}
+use mathlib.Core.Bool.{cond}
+use mathlib.Core.List.{List, [], _∷_}
+use lib.Dec.{eqb}
+use lib.ListN.{length}
+use lib.IntN.{ℤ, natAbs}
+use Rattle.params.specs.declared.Params.{Params}
+use Rattle.archive.specs.Places.{at, u8, u32, i16, i32, areKinds}
+
+-- The types of the fields.
+abbrev pub sheetKinds : List ℕ
+sheetKinds =
+    u32 ∷ i32 ∷ u32 ∷ u32 ∷ u32 ∷ u8 ∷ i16 ∷ u8 ∷ i16 ∷ u8 ∷ i32 ∷ u32 ∷ u32 ∷ u8 ∷ u8 ∷ u8 ∷ u8 ∷ []
+
+-- 18: there are 17 places. 19: each takes a number of its field's type. 0 where both hold.
+-- (Document 01, 'The symbol program', has the same two numbers for a line of other than 17 fields and a value outside its type.)
+unfoldable pub sheetNumber : List ℤ → ℕ
+sheetNumber l = cond (eqb (length l) 17) (cond (areKinds sheetKinds l) 0 19) 18
+
+-- The fields. The number of an unsigned field is the place's without its sign: of a sheet that is not refused by 19 the place's own.
+unfoldable pub paramsOf : List ℤ → Params
+paramsOf l = record {
+  taps = natAbs (at l 0);
+  «nco_step» = at l 1;
+  «period_nominal» = natAbs (at l 2);
+  «period_min» = natAbs (at l 3);
+  «period_max» = natAbs (at l 4);
+  «ted_shift» = natAbs (at l 5);
+  kp = at l 6;
+  «kp_shift» = natAbs (at l 7);
+  ki = at l 8;
+  «ki_shift» = natAbs (at l 9);
+  «integrator_max» = at l 10;
+  «agc_init» = natAbs (at l 11);
+  «agc_target» = natAbs (at l 12);
+  «agc_shift» = natAbs (at l 13);
+  bits = natAbs (at l 14);
+  «q_shift» = natAbs (at l 15);
+  «block_log2» = natAbs (at l 16);
+}
