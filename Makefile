@@ -1,15 +1,16 @@
 # make run     the main job, on the stored input
 # make test    the gate: proofs, must-fail edits and programs, from nothing
 # make oracle  compares this code with the Rust front end of isdb-rs
+# make bench   measures both in one run and prints how many times as fast this one is
 #
-# Needed: the Rattle kit (its command rt) and a POSIX shell; for `make oracle` cargo, and the sources of isdb-rs at ISDB_RS.
+# Needed: the Rattle kit (its command rt) and a POSIX shell; for `make oracle` and `make bench` cargo, and the sources of isdb-rs at ISDB_RS.
 RT ?= rt
 ISDB_RS ?= ../shared/docs/src
 
-.PHONY: run test oracle clean kit
+.PHONY: run test oracle archive bench clean kit
 
 run: kit
-	@echo "Proving and linking the replay programs and what they stand on (a minute from nothing) .."
+	@echo "Proving and linking the replay programs and what they stand on (some minutes from nothing) .."
 	@mkdir -p target
 	@$(RT) check replay_leaves replay_calls >target/run.out 2>&1 || { tail -n 20 target/run.out; exit 1; }
 	@echo "Replaying the answers of isdb-rs that are stored in crates/replay_*/stdin:"
@@ -23,8 +24,16 @@ test: kit
 oracle: kit
 	@RT='$(RT)' ISDB_RS='$(ISDB_RS)' sh oracle/compare.sh
 
+archive: kit
+	@echo "Proving the archive and what it stands on, and writing target/staticlib/libarchive.a .."
+	@mkdir -p target
+	@$(RT) staticlib archive >target/archive.out 2>&1 || { tail -n 20 target/archive.out; exit 1; }
+
+bench: archive
+	@cd bench && ISDB_RS='$(ISDB_RS)' cargo run --offline --quiet --release
+
 clean:
-	rm -rf target oracle/target
+	rm -rf target oracle/target bench/target
 
 kit:
 	@command -v $(RT) >/dev/null || { echo "rt, the command of the Rattle kit, is not on the PATH. Install the kit, or say where it is: make RT=/path/to/rt"; exit 1; }
