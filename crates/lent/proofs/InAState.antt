@@ -1,6 +1,6 @@
 -- In a state that a block can go on from, at which a symbol falls due, the group changes as the state's own registers do.
 -- What refusal 9 and the time test is all that is asked of registers before they change.
-use Prim.Native.Nat.{_≤_, _<_}
+use Prim.Native.Nat.{_<_}
 use mathlib.Core.Path.{_≡_, refl, ap, _∙_}
 use mathlib.Core.Bool.{Bool, true, _&&_}
 use native.Mathlib.Omega.{arith}

@@ -107,10 +107,13 @@ module _ {M : Type 1} (𝓤 : URA M) (H : Heap 𝓤) (A : Atoms 𝓤) (W : Given
   moved s v is = LL.owed S.the-type S′.the-laws s _ is .0
 
   exits : (s : AfterSymbol) → s ≡ afterSymbol p h due w
-      → ent 𝓤 (⋆ 𝓤 H A (‵ (fobs γ (R.the-row .coded .code (s .registers))) ∷ ‵ (fbor κ (Body (mem R.the-row) b o γ)) ∷ ‵ (flft κ q) ∷ ‵ (owns (P.the-row ∷ bool ∷ D.the-row ∷ []) (a .1) (vals .1)) ∷ [])) (Post (vbool (s .made)))
+      → ent 𝓤 (⋆ 𝓤 H A (‵ (fobs γ (R.the-row .coded .code (s .registers))) ∷ ‵ (fbor κ (Body (mem R.the-row) b o γ)) ∷ ‵ (flft κ q)
+      ∷ ‵ (owns (P.the-row ∷ bool ∷ D.the-row ∷ []) (a .1) (vals .1)) ∷ [])) (Post (vbool (s .made)))
   exits s e =
-      qed W (‵ (fobs γ (R.the-row .coded .code (s .registers))) ∷ ‵ (fbor κ (Body (mem R.the-row) b o γ)) ∷ ‵ (flft κ q) ∷ ‵ (owns (P.the-row ∷ bool ∷ D.the-row ∷ []) (a .1) (vals .1)) ∷ []) ∵
-      suffices ! _ (ends-at 𝓤 H A change.ended stayed (change.clauses 𝓤 H A at-mem run) W (((κ, tt), (q, tt), tt, a, vals), tt) (vbool (s .made)) (s .made) (s .registers, (tt, (tt, (tt, tt)))) (tt, (tt, (tt, (tt, tt))))) $
+      qed W (‵ (fobs γ (R.the-row .coded .code (s .registers))) ∷ ‵ (fbor κ (Body (mem R.the-row) b o γ)) ∷ ‵ (flft κ q)
+      ∷ ‵ (owns (P.the-row ∷ bool ∷ D.the-row ∷ []) (a .1) (vals .1)) ∷ []) ∵
+      suffices ! _ (ends-at 𝓤 H A change.ended stayed (change.clauses 𝓤 H A at-mem run) W (((κ, tt), (q, tt), tt, a, vals), tt) (vbool (s .made)) (s .made)
+      (s .registers, (tt, (tt, (tt, tt)))) (tt, (tt, (tt, (tt, tt))))) $
       says ! e $ nothing ! $ move ! (3 ∷ 0 ∷ []) $ join ! $ frame ! $ feqI ! (List Val) (vptr b o ∷ []) (vptr b o ∷ []) refl $ fjoin3 ! $ fjoin ! $
       owned ! bool (Is bool) (bool-makes 𝓤 H A W) (s .made) _ refl $ move ! (1 ∷ 0 ∷ []) $ done !
 
@@ -120,18 +123,23 @@ module _ {M : Type 1} (𝓤 : URA M) (H : Heap 𝓤) (A : Atoms 𝓤) (W : Given
         qed W ((‵ (flft κ q) ⊛ ‵ ftrue) ∷ ‵ (owns (MutRef (named 0) κ R.the-row ∷ P.the-row ∷ bool ∷ D.the-row ∷ []) a vals) ∷ []) ∵
         enter ! C Λ code.function (vptr b o ∷ P′.lowered p ∷ vbool due ∷ D′.lowered w ∷ []) _ $
         alloc1 ! (λ l₀. alloc1 ! (λ l₁. alloc1 ! (λ l₂. alloc1 ! (λ l₃. alloc1 ! (λ l₄. alloc1 ! (λ l₅. alloc1 ! (λ l₆. alloc0 ! $ params1 ! $ pass1 ! (init ! 10 refl (tt, tt)) $
-        pass1 ! (init ! 8 refl (LL.lawful P.the-type P′.the-laws 𝓤 H A W .typed p _ p-is .0)) $ pass1 ! (init ! 6 refl (tt, tt)) $ pass1 ! (init ! 4 refl (LL.lawful D.the-type D′.the-laws 𝓤 H A W .typed w _ w-is .0)) $ pass0 ! $
+        pass1 ! (init ! 8 refl (LL.lawful P.the-type P′.the-laws 𝓤 H A W .typed p _ p-is .0)) $ pass1 ! (init ! 6 refl (tt, tt)) $
+        pass1 ! (init ! 4 refl (LL.lawful D.the-type D′.the-laws 𝓤 H A W .typed w _ w-is .0)) $ pass0 ! $
         -- the borrow is opened
         move ! (15 ∷ []) $ fsplit ! $ fsplit3 ! $ drop ! $ move ! (17 ∷ []) $ split ! $ move ! (2 ∷ 3 ∷ 0 ∷ []) $
-        opens ! tt R.the-row {h = h} b o (λ vs. spelt ! R.the-row (Is R.the-row) (shows 𝓤 H A R.the-row) (LL.vals R.the-type R′.the-laws) (LL.tells R.the-type R′.the-laws) fullShare h vs b o $
+        opens ! tt R.the-row {h = h} b o (λ vs. spelt ! R.the-row (Is R.the-row) (shows 𝓤 H A R.the-row) (LL.vals R.the-type R′.the-laws)
+        (LL.tells R.the-type R′.the-laws) fullShare h vs b o $
         move ! (1 ∷ []) $ peeks ! R.the-row (Is R.the-row) (shows 𝓤 H A R.the-row) h (R′.lowered h ∷ []) (λ h-is. move ! (1 ∷ 0 ∷ []) $
         -- [the struct's cell; what a Registers owns; the open borrow; obs; auth; true; the other parameters'; _6; …; _5; …; _4; …; _3; …; _2; …; _1; …; room for _0; …]
-        assigns ! (of-opd ! (load ! (from ! (hop ! (look ! 17 refl) (stop !))) (look-raw ! 0 refl))) (from ! (stop !)) (init ! 7 refl (LL.lawful R.the-type R′.the-laws 𝓤 H A W .typed h _ h-is .0)) $
+        assigns ! (of-opd ! (load ! (from ! (hop ! (look ! 17 refl) (stop !))) (look-raw ! 0 refl))) (from ! (stop !))
+        (init ! 7 refl (LL.lawful R.the-type R′.the-laws 𝓤 H A W .typed h _ h-is .0)) $
         -- `after_symbol`
         move ! (5 ∷ []) $ use1 W (raw (After 𝓤 H A at-mem run .pre to-after)) (goes-after h-is) $
         calls-at ! fm (After 𝓤 H A at-mem run) known to-after
-        (and-then ! (load ! (from ! (stop !)) (look ! 7 refl)) (and-then ! (load ! (from ! (stop !)) (look ! 15 refl)) (and-then ! (load ! (from ! (stop !)) (look ! 13 refl)) (and-then ! (load ! (from ! (stop !)) (look ! 11 refl)) (no-more !))))) (λ v.
-        use1 W (later (some (λ (s : AfterSymbol). (‵ ftrue ⊛ ‵ (S.the-row .own s (v ∷ []))) ⊛ raw (ensured 𝓤 H A after.ended (after.clauses 𝓤 H A at-mem run) tt to tt s)))) (id⊢ 𝓤 _) $ await ! tt $ pick ! (λ s.
+        (and-then ! (load ! (from ! (stop !)) (look ! 7 refl)) (and-then ! (load ! (from ! (stop !)) (look ! 15 refl))
+        (and-then ! (load ! (from ! (stop !)) (look ! 13 refl)) (and-then ! (load ! (from ! (stop !)) (look ! 11 refl)) (no-more !))))) (λ v.
+        use1 W (later (some (λ (s : AfterSymbol). (‵ ftrue ⊛ ‵ (S.the-row .own s (v ∷ []))) ⊛ raw (ensured 𝓤 H A after.ended (after.clauses 𝓤 H A at-mem run) tt to tt s))))
+        (id⊢ 𝓤 _) $ await ! tt $ pick ! (λ s.
         split ! $ move ! (1 ∷ []) $ use1 W (raw (fact 𝓤 (s ≡ afterSymbol p h due w))) (after-of s) $ heard ! (s ≡ afterSymbol p h due w) (λ e. split ! $ drop ! $
         peeks ! S.the-row (Is S.the-row) (shows 𝓤 H A S.the-row) s (v ∷ []) (λ is. drop ! $
         land ! (from ! (stop !)) (init ! 8 refl (LL.lawful S.the-type S′.the-laws 𝓤 H A W .typed s _ is .0)) $
@@ -145,23 +153,33 @@ module _ {M : Type 1} (𝓤 : URA M) (H : Heap 𝓤) (A : Atoms 𝓤) (W : Given
         closes ! tt R.the-row (s .registers) (R′.lowered (s .registers) ∷ []) b o $
         -- [obs; the borrow; the token; the other parameters'; _6; …]
         returns ! (look ! 16 refl) $ forget ! 4 refl $ forget ! 6 refl $ forget ! 8 refl $ forget ! 10 refl $ forget ! 12 refl $ forget ! 14 refl $ forget ! 16 refl $
-        move ! (16 ∷ 17 ∷ []) $ free1 ! $ move ! (14 ∷ 15 ∷ []) $ free1 ! $ move ! (12 ∷ 13 ∷ []) $ free1 ! $ move ! (10 ∷ 11 ∷ []) $ free1 ! $ move ! (8 ∷ 9 ∷ []) $ free1 ! $ move ! (6 ∷ 7 ∷ []) $ free1 ! $ move ! (4 ∷ 5 ∷ []) $ free1 ! $ free0 ! $
+        move ! (16 ∷ 17 ∷ []) $ free1 ! $ move ! (14 ∷ 15 ∷ []) $ free1 ! $ move ! (12 ∷ 13 ∷ []) $ free1 ! $ move ! (10 ∷ 11 ∷ []) $ free1 ! $ move ! (8 ∷ 9 ∷ []) $ free1 ! $
+        move ! (6 ∷ 7 ∷ []) $ free1 ! $ move ! (4 ∷ 5 ∷ []) $ free1 ! $ free0 ! $
         keep ! (0 ∷ 1 ∷ 2 ∷ 3 ∷ []) $ by ! (exits s e))))))))))))))
 
 module _ {M : Type 1} (𝓤 : URA M) (H : Heap 𝓤) (A : Atoms 𝓤) (W : Given 𝓤 H A) (mem : Memory → SProp 𝓤) (run : Routine → Fun 𝓤) where
-  change-walks : (C : Calls 𝓤 H) (Λ : Loops 𝓤 H) → FmC 𝓤 H (W .laws) C → Triple 𝓤 (C #after-symbol) (After 𝓤 H A mem run) → Walks 𝓤 H A change.ended stayed (WpFn 𝓤 H C Λ code.function) (change.clauses 𝓤 H A mem run)
+  change-walks : (C : Calls 𝓤 H) (Λ : Loops 𝓤 H) → FmC 𝓤 H (W .laws) C → Triple 𝓤 (C #after-symbol) (After 𝓤 H A mem run)
+      → Walks 𝓤 H A change.ended stayed (WpFn 𝓤 H C Λ code.function) (change.clauses 𝓤 H A mem run)
   change-walks C Λ fm known = walked 𝓤 H A change.ended stayed (change.clauses 𝓤 H A mem run) (WpFn 𝓤 H C Λ code.function)
       (λ κs. (ptr-vals, (LL.vals P.the-type P′.the-laws, (bool-vals, (LL.vals D.the-type D′.the-laws, tt)))))
       (λ κs. (mut-tells (named 0) (κs .0) R.the-row, (LL.tells P.the-type P′.the-laws, (bool-tells, (LL.tells D.the-type D′.the-laws, tt)))))
       (λ κs qs bounds a g are. via 𝓤 _ (fst∗ 𝓤 _ (emp 𝓤))
-      (walk 𝓤 H A W mem run (κs .0) (qs .0) (a .0 .ptr .0) (a .0 .ptr .1) (a .0 .name) (a .0 .now) (a .1 .0) (a .1 .1 .0) (a .1 .1 .1 .0) (are .1 .0) (are .1 .1 .1 .0) C Λ fm known))
+      (walk 𝓤 H A W mem run (κs .0) (qs .0) (a .0 .ptr .0) (a .0 .ptr .1) (a .0 .name) (a .0 .now) (a .1 .0) (a .1 .1 .0) (a .1 .1 .1 .0) (are .1 .0)
+      (are .1 .1 .1 .0) C Λ fm known))
 
-change-meets : {M : Type 1} (𝓤 : URA M) (H : Heap 𝓤) (A : Atoms 𝓤) → Given 𝓤 H A → (mem : Memory → SProp 𝓤) (run : Routine → Fun 𝓤) (𝓣 : Tables 𝓤 H) → Triple 𝓤 (𝓣 .C #after-symbol) (After 𝓤 H A mem run)
+change-meets : {M : Type 1} (𝓤 : URA M) (H : Heap 𝓤) (A : Atoms 𝓤) → Given 𝓤 H A → (mem : Memory → SProp 𝓤) (run : Routine → Fun 𝓤) (𝓣 : Tables 𝓤 H)
+    → Triple 𝓤 (𝓣 .C #after-symbol) (After 𝓤 H A mem run)
     → Meets 𝓤 H A change.signature (WpFn 𝓤 H (𝓣 .C) (𝓣 .Λ) code.function) (change.spec 𝓤 H A mem run)
 change-meets 𝓤 H A W mem run 𝓣 known =
-    walk-meets 𝓤 H A change.ended stayed W
-    (goes-ref 𝓤 H A W 1 0 tt (plain (λ _. R.the-row)), (goes-none 𝓤 H A W 1 (λ _. P.the-row) yes (λ κs x f. refl), (goes-none 𝓤 H A W 1 (λ _. bool) yes (λ κs x f. refl), (goes-none 𝓤 H A W 1 (λ _. D.the-row) yes (λ κs x f. refl), tt))))
-    (change.clauses 𝓤 H A mem run) (WpFn 𝓤 H (𝓣 .C) (𝓣 .Λ) code.function) (WpFn-mono 𝓤 H (W .laws) 𝓣 code.function) (change-walks 𝓤 H A W mem run (𝓣 .C) (𝓣 .Λ) (fmOf 𝓤 H (W .laws) 𝓣) known)
+    walk-meets 𝓤 H A change.ended stayed W (
+      goes-ref 𝓤 H A W 1 0 tt (plain (λ _. R.the-row)),
+      (
+        goes-none 𝓤 H A W 1 (λ _. P.the-row) yes (λ κs x f. refl),
+        (goes-none 𝓤 H A W 1 (λ _. bool) yes (λ κs x f. refl), (goes-none 𝓤 H A W 1 (λ _. D.the-row) yes (λ κs x f. refl), tt)),
+      ),
+    )
+    (change.clauses 𝓤 H A mem run) (WpFn 𝓤 H (𝓣 .C) (𝓣 .Λ) code.function) (WpFn-mono 𝓤 H (W .laws) 𝓣 code.function)
+    (change-walks 𝓤 H A W mem run (𝓣 .C) (𝓣 .Λ) (fmOf 𝓤 H (W .laws) 𝓣) known)
 
 pub change-spec : {M : Type 1} → stated.statement M
 unfolding code.routine tablesOf
