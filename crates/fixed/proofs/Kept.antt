@@ -8,10 +8,9 @@ use native.Mathlib.Omega.{arith}
 use lib.Dec.{eqb}
 use lib.ListN.{length, getD, set, replicate, length-set}
 use lib.Seq.{getD-set-same, getD-set-other}
-use lib.IntN.{ℤ, pos, negsuc, negℤ, natAbs, _+ℤ_, _-ℤ_}
-use lib.Signed.{leZ, ltZ}
+use lib.IntN.{ℤ, pos, natAbs, _+ℤ_, _-ℤ_}
+use lib.Signed.{ltZ}
 use borrow.Author.Tests.{ltb-true, ltb-false, eqb-true, eqb-false}
-use Rattle.arith.proofs.Order.{neg-P, neg-N, le-pn}
 use Rattle.params.specs.declared.Params.{Params}
 use Rattle.params.specs.Judge.{Sheet, sheetOf}
 use Rattle.params.proofs.Accepted.{GoodFields, Accepted, judged-none, no-faults}
@@ -31,6 +30,7 @@ use Rattle.fixed.specs.Sample.{one, joined, withSymbol, withoutSymbol, f
 use Rattle.fixed.specs.Block.{goodState}
 use Rattle.fixed.specs.Inside.{lowered, Twice, Laid, Queued, bare, Stands, Ready}
 use Rattle.fixed.proofs.Loops.{Loop, loopOf, Within}
+use Rattle.fixed.proofs.Tested.{between-abs}
 use Rattle.fixed.proofs.States.{time, head-below, due-time, due-symbols, Going, going, good, due-within, silent-going, sounded-going}
 
 -- ---- the line
@@ -95,17 +95,13 @@ queued-set {e} {err} {pending} at w h queued = record {
 
 -- ---- an integrator within its ends leaves room to be moved
 
-between-abs : (n : ℕ) (z : ℤ) → leZ (negℤ (pos n)) z ≡ true → leZ z (pos n) ≡ true → natAbs z ≤ n
-between-abs n (pos m) low high = omega (arith, le-pn (pos m) (pos n) high)
-between-abs n (negsuc m) low high = omega (arith, le-pn (negℤ (pos n)) (negsuc m) low, neg-P (pos n), neg-N (pos n))
-
 pub v-small : (p : Params) (l : Loop) → GoodFields p → Within p l → natAbs (l .v) ≤ 2 ^ 61
 v-small p l f w = go (f .integrator .0) (f .integrator .1) (f .integrator .2)
   where
     go : (n : ℕ) → p .«integrator_max» ≡ pos n → n ≤ 4194303 → natAbs (l .v) ≤ 2 ^ 61
     go n e h =
         let is : integratorEnd p ≡ pos (n * 65536) = rw e refl in
-        omega (arith, between-abs (n * 65536) (l .v) (rw is at (w .v .low)) (rw is at (w .v .high)))
+        omega (arith, between-abs (pos (n * 65536)) (l .v) (rw is at (w .v .low)) (rw is at (w .v .high)))
 
 -- ---- registers and positions
 

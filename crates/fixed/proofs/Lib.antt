@@ -3,6 +3,7 @@ pub mod Runs
 pub mod Loops
 pub mod States
 pub mod Widths
+pub mod Tested
 pub mod Filling
 pub mod RowSums
 pub mod Centre

@@ -1,5 +1,5 @@
 -- What a reader has to believe of the front end, in the order in which a sample travels: from the fresh state through mixer, line, filter and loop to a
--- symbol, then a block of samples; last, what the functions inside a block promise one another.
+-- symbol, then a block of samples; what the functions inside a block promise one another; last, a symbol's part in the registers alone, for who is lent them.
 pub mod Start
 pub mod Mix
 pub mod Line
@@ -9,3 +9,4 @@ pub mod Symbol
 pub mod Sample
 pub mod Block
 pub mod Inside
+pub mod Lent

@@ -2,6 +2,7 @@
 mod block;
 mod correct;
 mod filter;
+mod group;
 mod line;
 mod make;
 mod mix;
@@ -42,6 +43,12 @@ pub struct Registers {
     pub gain_acc: u32,
     // Symbols made so far.
     pub symbols: u64,
+}
+
+// What a symbol makes of the registers, and whether it was made; where not, they are as given.
+pub struct AfterSymbol {
+    pub registers: Registers,
+    pub made: bool,
 }
 
 // All that is kept between samples (document 01: the state).

@@ -1,16 +1,15 @@
 -- `fixed::block::is_good_state` meets its contract: its tests are the definition's, in the same order.
 -- Each `&&` of the code joins the tests so far and the next one, which is made only where those hold (`and-next`).
-use Prim.Native.Nat.{ℕ, _^_, _≤_, _<_, min}
+use Prim.Native.Nat.{ℕ, _≤_, _<_, min}
 use mathlib.Core.Path.{_≡_, refl, sym, ap, _∙_}
-use mathlib.Core.Logic.{_⊎_, ⊎-elim}
+use mathlib.Core.Logic.{⊎-elim}
 use mathlib.Core.Bool.{Bool, true, false, _&&_, and-assoc}
 use native.Mathlib.Omega.{arith}
 use lib.Dec.{eqb, leb, ltb}
-use lib.IntN.{ℤ, pos, negℤ, _-ℤ_, _*ℤ_, +ℤ-idl}
-use lib.Signed.{mag, leZ, ltZ}
+use lib.IntN.{ℤ, pos, negℤ, +ℤ-idl}
+use lib.Signed.{leZ, ltZ}
 use mir.Syntax.{w32, w64}
-use mir.Val.{SFits, toZ, ofZ}
-use mir.Facts.{toZ-ofZ}
+use mir.Val.{SFits}
 use borrow.Author.Needs.{needs}
 use borrow.Author.Tests.{lt-ltb, le-ltb}
 use Rattle.arith.proofs.Bits.{held, widens, widened}
@@ -18,23 +17,12 @@ use Rattle.params.specs.Judge.{within}
 use Rattle.fixed.specs.Loop.{loopDelay, integratorEnd}
 use Rattle.fixed.specs.Block.{goodState}
 use Rattle.fixed.specs.Inside.{bare}
-use Rattle.fixed.proofs.Widths.{in64, end-fits, low-fits, end-is}
+use Rattle.fixed.proofs.Widths.{end-fits, low-fits, end-is}
+use Rattle.fixed.proofs.Tested.{with-next, and-next, low-test, high-test}
 use Rattle.fixed.proofs.block.is_good_state.Statement.{statement}
 use Rattle.fixed.proofs.block.is_good_state.Tie as tie
 
 -- ---- the integrator's ends
-
--- the upper end, as the code computes it
-abbrev end : ℤ → ℤ
-end m = in64 (in64 (toZ w32 (ofZ w32 m)) *ℤ pos 65536)
-
-module _ {m : ℤ} (f : SFits w32 m) where
-  -- the integrator, tested against both
-  low-test : (v : ℤ) → mag v < 2 ^ 63 → leZ (toZ w64 (ofZ w64 (pos 0 -ℤ end m))) (toZ w64 (ofZ w64 v)) ≡ leZ (negℤ (m *ℤ pos 65536)) v
-  low-test v h = simp (end-is f, +ℤ-idl, toZ-ofZ (low-fits f), held w64 v h)
-
-  high-test : (v : ℤ) → mag v < 2 ^ 63 → leZ (toZ w64 (ofZ w64 v)) (end m) ≡ leZ v (m *ℤ pos 65536)
-  high-test v h = simp (end-is f, held w64 v h)
 
 most : (c : tie.After-struct-told) → SFits w32 (c .before .before .args .p .«integrator_max»)
 most c = record { sfits = search (c .struct-told .given) depth 40 }
@@ -65,15 +53,6 @@ waits c =
     ⊎-elim (λ t. t .1 ∙ under n (t .0 .taken)) (λ e. e .1 ∙ over n (e .0 .left)) (c .if1 .came)
 
 -- ---- the tests so far, and the next
-
-with-next : (next : Bool) {a b : Bool} → a ≡ b → (a && next) ≡ (b && next)
-with-next next e = ap (λ (b : Bool). b && next) e
-
--- the code's `&&`, by its two arms: the next test decides where those so far hold
-and-next : {A B : Type 0} {whole so-far next joined : Bool} → so-far ≡ whole → A ⊎ B
-    → (A → (so-far ≡ true) × (joined ≡ next)) → (B → (so-far ≡ false) × (joined ≡ so-far)) → joined ≡ (whole && next)
-and-next {next} e came taken left =
-    ⊎-elim (λ t. taken t .1 ∙ sym (with-next next (taken t .0))) (λ n. left n .1 ∙ left n .0 ∙ sym (with-next next (left n .0))) came ∙ with-next next e
 
 -- what the first n of the code's tests say
 module _ (s : tie.Start) where
