@@ -12,10 +12,11 @@ ISDB_RS ?= ../shared/docs/src
 run: kit
 	@echo "Proving and linking the replay programs and what they stand on (some minutes from nothing) .."
 	@mkdir -p target
-	@$(RT) check replay_leaves replay_calls >target/run.out 2>&1 || { tail -n 20 target/run.out; exit 1; }
+	@$(RT) check replay_leaves replay_calls replay_floats >target/run.out 2>&1 || { tail -n 20 target/run.out; exit 1; }
 	@echo "Replaying the answers of isdb-rs that are stored in crates/replay_*/stdin:"
 	@target/bin/replay_leaves <crates/replay_leaves/stdin
 	@target/bin/replay_calls <crates/replay_calls/stdin
+	@target/bin/replay_floats <crates/replay_floats/stdin
 
 test: kit
 	@$(RT) fmt --check

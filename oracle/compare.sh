@@ -1,9 +1,9 @@
 #!/bin/sh
 # Builds isdb-rs's front end unchanged, compares what it answers with what this repository answers, and says how many answers were
-# compared and how many differed. Run it as `make oracle`. SCALE=10 makes every part ten times as large.
+# compared and how many differed. Run it as `make oracle`. SCALE=10 makes every part ten times as large, the float samples excepted: of these STEP=1 takes all.
 set -eu
 cd "$(dirname "$0")/.."
-: "${RT:=rt}" "${ISDB_RS:=../shared/docs/src}" "${SCALE:=1}"
+: "${RT:=rt}" "${ISDB_RS:=../shared/docs/src}" "${SCALE:=1}" "${STEP:=16}"
 source=$ISDB_RS/crates/isdb-frontend/src
 work=target/oracle
 
@@ -26,7 +26,7 @@ for profile in release checked; do
     (cd oracle && cargo build --offline --quiet --profile $profile)
 done
 echo "oracle: proving and linking the replay programs .."
-$RT check replay_leaves replay_calls >"$work/check.out" 2>&1 || { tail -n 20 "$work/check.out"; exit 1; }
+$RT check replay_leaves replay_calls replay_floats >"$work/check.out" 2>&1 || { tail -n 20 "$work/check.out"; exit 1; }
 rust=oracle/target/release/oracle
 checked=oracle/target/checked/oracle
 
@@ -67,6 +67,14 @@ done
 for kind in extreme mixed; do
     replayed "blocks and readings of any state, $kind sheets" replay_calls states $kind 1 $((50000 * SCALE))
 done
+
+# Floats: the samples of one in 16 of all 2^32 f32, and of all near a tie, a whole number or an end of what an f32 can be; STEP=1 takes every f32.
+replayed "float samples, one f32 in $STEP and all that stand out" replay_floats samples "$STEP"
+
+# Designs at every corner, strange ones and ordinary ones, wherever isdb-rs answers with registers or a refusal of document 01; and designs that are judged with banks and gains.
+replayed "registers of designs" replay_floats floats designs 1 $((52000 * SCALE))
+replayed "sheets of designs, judged" replay_floats floats sheets 1 $((4000 * SCALE))
+replayed "sheets of designs, judged, few taps" replay_floats floats small 1 $((10000 * SCALE))
 
 # The Rust's two builds against each other: where they differ an overflow wrapped, and its answers are no measure.
 same=0 other=0

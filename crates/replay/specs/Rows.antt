@@ -27,6 +27,10 @@ signedValue n =
     cond (n .minus) (cond (ltb 9223372036854775807 (n .size)) (negsuc 9223372036854775807) (pos 0 -ℤ pos (n .size)))
     (cond (ltb 9223372036854775807 (n .size)) (pos 9223372036854775807) (pos (n .size)))
 
+-- The number of 64 bits signed that has the bits of an unsigned one.
+unfoldable pub signedBits : ℕ → ℤ
+signedBits n = cond (ltb n 9223372036854775808) (pos n) (negsuc (18446744073709551615 - n))
+
 -- A cursor before the first byte of the first row, and one at another byte of its piece.
 abbrev pub start : Cursor
 start = record { at = 0; column = 0; number = noNumber; ended = false }

@@ -1,4 +1,10 @@
 // What the replay programs read and count: the oracle's answers, as rows of decimal numbers parted by commas.
+//
+// rows.rt has the numbers of a row, answer.rt the refusals and banks.rt the banks that they stand for.
+pub mod answer;
+pub mod banks;
+pub mod rows;
+
 ghost use mathlib.Core.Path.{_≡_};
 ghost use lib.ListN.{length};
 ghost use Rattle.replay.specs.Rows.{noNumber, digitAdded, signedValue, start, moved, Advanced, noneCounted, oneCounted};

@@ -1,11 +1,11 @@
 // What the rows do: some are kept for the calls to come, the others make a call on what is in force and have its answer (oracle/README.md, 'Calls').
 use crate::answer;
-use crate::rows;
 use crate::sheet::Sheet;
 use crate::state;
 use fixed::Frontend;
 use fixed::Processed;
 use replay::Tally;
+use replay::rows;
 
 // What the rows so far leave: how many answers were compared, and what is in force.
 pub(crate) struct Replay {
@@ -33,6 +33,20 @@ fn keep_values(numbers: &[i64], values: &mut [i16]) -> usize {
 }
 
 // ---- a block's output
+
+fn is_same(a: &[i64], b: &[i64]) -> bool {
+    if a.len() != b.len() {
+        return false;
+    }
+    let mut n: usize = 0;
+    while n < a.len() {
+        if a[n] != rows::at(b, n) {
+            return false;
+        }
+        n += 1;
+    }
+    true
+}
 
 // What an output holds at a place before a block is asked for: a number far below those of symbols.
 fn pattern(place: usize) -> i64 {
@@ -93,19 +107,21 @@ impl Replay {
     }
 
     // Row 4.
-    fn is_judged(self, row: &[i64], banks: &[i32]) -> bool {
+    fn is_judged(self, row: &[i64], room: &[i32]) -> bool {
         let sheet = self.sheet;
         let params = sheet.params;
-        let verdict = params.validate(sheet.h(banks), sheet.g(banks), sheet.k(banks));
+        let banks = sheet.banks;
+        let verdict = params.validate(banks.h(room), banks.g(room), banks.k(room));
         answer::of_verdict(verdict).is(rows::rest(row, 1))
     }
 
     // Row 5: of a refusal it has the number alone.
-    fn is_offset(self, row: &[i64], banks: &[i32]) -> bool {
+    fn is_offset(self, row: &[i64], room: &[i32]) -> bool {
         let sheet = self.sheet;
         let params = sheet.params;
+        let banks = sheet.banks;
         let period = arith::wrap_u32(rows::at(row, 1));
-        let offset = params.offset(sheet.h(banks), sheet.g(banks), sheet.k(banks), period);
+        let offset = params.offset(banks.h(room), banks.g(room), banks.k(room), period);
         let verdict = offset.verdict;
         row.len() == 4
             && rows::at(row, 2) == offset.parts
@@ -113,10 +129,11 @@ impl Replay {
     }
 
     // Row 8: starting.
-    fn started(self, row: &[i64], banks: &[i32]) -> Replay {
+    fn started(self, row: &[i64], room: &[i32]) -> Replay {
         let sheet = self.sheet;
         let params = sheet.params;
-        let started = Frontend::new(params, sheet.h(banks), sheet.g(banks), sheet.k(banks));
+        let banks = sheet.banks;
+        let started = Frontend::new(params, banks.h(room), banks.g(room), banks.k(room));
         let verdict = started.verdict;
         let state = started.state;
         let mut next = self;
@@ -125,16 +142,17 @@ impl Replay {
     }
 
     // Row 10: a block, into this output.
-    fn processed(self, row: &[i64], banks: &[i32], values: &[i16], out: &mut [i64]) -> Replay {
+    fn processed(self, row: &[i64], room: &[i32], values: &[i16], out: &mut [i64]) -> Replay {
         fill(&mut *out);
         let sheet = self.sheet;
         let params = sheet.params;
+        let banks = sheet.banks;
         let given = self.state;
         let block = given.process(
             params,
-            sheet.h(banks),
-            sheet.g(banks),
-            sheet.k(banks),
+            banks.h(room),
+            banks.g(room),
+            banks.k(room),
             values,
             &mut *out,
         );
@@ -154,15 +172,16 @@ impl Replay {
             return false;
         }
         let end = from + rows::least(numbers.len(), places - from);
-        rows::is_same(&out[from..end], numbers)
+        is_same(&out[from..end], numbers)
     }
 
     // Row 12.
-    fn is_reading(self, row: &[i64], banks: &[i32]) -> bool {
+    fn is_reading(self, row: &[i64], room: &[i32]) -> bool {
         let sheet = self.sheet;
         let params = sheet.params;
+        let banks = sheet.banks;
         let state = self.state;
-        let reading = state.read(params, sheet.h(banks), sheet.g(banks), sheet.k(banks));
+        let reading = state.read(params, banks.h(room), banks.g(room), banks.k(room));
         let verdict = reading.verdict;
         rows::at(row, 1) == reading.period as i64
             && rows::at(row, 2) == reading.gain as i64
@@ -171,13 +190,13 @@ impl Replay {
     }
 
     // Whether a row that leaves all as it is has the answer. No call answers a row of another kind.
-    fn is_answered(self, row: &[i64], banks: &[i32], out: &[i64]) -> bool {
+    fn is_answered(self, row: &[i64], room: &[i32], out: &[i64]) -> bool {
         let kind = rows::at(row, 0);
         if kind == 4 {
-            return self.is_judged(row, banks);
+            return self.is_judged(row, room);
         }
         if kind == 5 {
-            return self.is_offset(row, banks);
+            return self.is_offset(row, room);
         }
         if kind == 9 {
             return state::is(self.state, rows::rest(row, 1));
@@ -186,30 +205,30 @@ impl Replay {
             return self.is_output(row, out);
         }
         if kind == 12 {
-            return self.is_reading(row, banks);
+            return self.is_reading(row, room);
         }
         false
     }
 
     // With the call of a row and its answer.
-    fn called(self, row: &[i64], banks: &[i32], values: &[i16], out: &mut [i64]) -> Replay {
+    fn called(self, row: &[i64], room: &[i32], values: &[i16], out: &mut [i64]) -> Replay {
         let kind = rows::at(row, 0);
         if kind == 8 {
-            return self.started(row, banks);
+            return self.started(row, room);
         }
         if kind == 10 {
             let given = rows::least(self.values, values.len());
             let places = rows::least(rows::u64_of(rows::at(row, 1)) as usize, out.len());
-            return self.processed(row, banks, &values[0..given], &mut out[0..places]);
+            return self.processed(row, room, &values[0..given], &mut out[0..places]);
         }
-        self.counted(self.is_answered(row, banks, &*out))
+        self.counted(self.is_answered(row, room, &*out))
     }
 
     // With a row.
     fn with_row(
         self,
         row: &[i64],
-        banks: &mut [i32],
+        room: &mut [i32],
         values: &mut [i16],
         out: &mut [i64],
     ) -> Replay {
@@ -217,7 +236,7 @@ impl Replay {
         let mut next = self;
         if 0 <= kind && kind < 4 {
             let sheet = self.sheet;
-            next.sheet = sheet.with(kind, rows::rest(row, 1), banks);
+            next.sheet = sheet.with(kind, rows::rest(row, 1), room);
             return next;
         }
         if kind == 6 {
@@ -228,7 +247,7 @@ impl Replay {
             next.values = keep_values(rows::rest(row, 1), values);
             return next;
         }
-        self.called(row, &*banks, &*values, out)
+        self.called(row, &*room, &*values, out)
     }
 
     // With one more row, of so many numbers. Where these are more than it has places for, it is an answer that differs.
@@ -236,13 +255,13 @@ impl Replay {
         self,
         row: &[i64],
         numbers: usize,
-        banks: &mut [i32],
+        room: &mut [i32],
         values: &mut [i16],
         out: &mut [i64],
     ) -> Replay {
         if row.len() < numbers {
             return self.counted(false);
         }
-        self.with_row(&row[0..numbers], banks, values, out)
+        self.with_row(&row[0..numbers], room, values, out)
     }
 }

@@ -1,16 +1,11 @@
-// The sheet in force: rows 0 to 3 write its parts. The three banks share one room, h's third of it first, then g's and k's.
-use crate::rows;
+// The sheet in force: rows 0 to 3 write its parts.
 use params::Params;
+use replay::banks::Banks;
+use replay::rows;
 
-// The places of a bank's third.
-const THIRD: usize = 8192;
-
-// The fields, and how much of its third each bank takes.
 pub(crate) struct Sheet {
     pub(crate) params: Params,
-    h: usize,
-    g: usize,
-    k: usize,
+    pub(crate) banks: Banks,
 }
 
 fn params_of(fields: &[i64]) -> Params {
@@ -35,61 +30,27 @@ fn params_of(fields: &[i64]) -> Params {
     }
 }
 
-// Keeps a bank's coefficients in the third from a place on, and says how many there are.
-fn keep_bank(coefficients: &[i64], banks: &mut [i32], from: usize) -> usize {
-    let start = rows::least(from, banks.len());
-    let third = rows::least(THIRD, banks.len() - start);
-    let n = rows::least(coefficients.len(), third);
-    let mut i: usize = 0;
-    while i < n {
-        let c = arith::wrap_i32(coefficients[i]);
-        banks[start + i] = c;
-        i += 1;
-    }
-    n
-}
-
-// The bank in the third from a place on.
-fn bank_of(banks: &[i32], from: usize, long: usize) -> &[i32] {
-    let start = rows::least(from, banks.len());
-    let end = start + rows::least(long, banks.len() - start);
-    &banks[start..end]
-}
-
 impl Sheet {
     // A sheet whose fields are all 0, with no coefficients.
     pub(crate) fn empty() -> Sheet {
         Sheet {
             params: params_of(&[]),
-            h: 0,
-            g: 0,
-            k: 0,
+            banks: Banks::none(),
         }
     }
 
-    pub(crate) fn h(self, banks: &[i32]) -> &[i32] {
-        bank_of(banks, 0, self.h)
-    }
-
-    pub(crate) fn g(self, banks: &[i32]) -> &[i32] {
-        bank_of(banks, THIRD, self.g)
-    }
-
-    pub(crate) fn k(self, banks: &[i32]) -> &[i32] {
-        bank_of(banks, 2 * THIRD, self.k)
-    }
-
     // With the part that a row of kind 0 to 3 has.
-    pub(crate) fn with(self, kind: i64, part: &[i64], banks: &mut [i32]) -> Sheet {
+    pub(crate) fn with(self, kind: i64, part: &[i64], room: &mut [i32]) -> Sheet {
+        let banks = self.banks;
         let mut sheet = self;
         if kind == 0 {
             sheet.params = params_of(part);
         } else if kind == 1 {
-            sheet.h = keep_bank(part, banks, 0);
+            sheet.banks = banks.with_h(part, room);
         } else if kind == 2 {
-            sheet.g = keep_bank(part, banks, THIRD);
+            sheet.banks = banks.with_g(part, room);
         } else {
-            sheet.k = keep_bank(part, banks, 2 * THIRD);
+            sheet.banks = banks.with_k(part, room);
         }
         sheet
     }

@@ -1,10 +1,10 @@
 // A state as 186 numbers: nco, t_acc, v, period, gain_acc, symbols, head, oldest, waiting, samples; the line's 64 pairs i, q; the 24 pairs e, err of the
 // waiting errors. Both as they are stored.
-use crate::rows;
 use fixed::Frontend;
 use fixed::Pair;
 use fixed::Pending;
 use fixed::Registers;
+use replay::rows;
 ghost use Prim.Native.Nat.{_<_};
 
 fn registers_of(numbers: &[i64]) -> Registers {

@@ -45,14 +45,37 @@ fn read(line: &str) -> Option<Design> {
     })
 }
 
+/// What isdb-rs answers to a design.
+pub enum Answer {
+    Registers(Box<Params>),
+    /// A refusal's number, and the f64 that it carries.
+    Refused(i64, Option<f64>),
+    /// A refusal that has no number here.
+    LoopGain,
+}
+
+impl Answer {
+    pub fn of(d: &Design) -> Self {
+        match Params::design(d) {
+            Ok(p) => Self::Registers(Box::new(p)),
+            Err(ParamError::SamplesPerSymbol { sps }) => Self::Refused(14, Some(sps)),
+            Err(ParamError::Taps { .. }) => Self::Refused(15, None),
+            Err(ParamError::Range { .. }) => Self::Refused(16, None),
+            Err(ParamError::Trim { trim }) => Self::Refused(17, Some(trim)),
+            Err(ParamError::LoopGain { .. }) => Self::LoopGain,
+            Err(e) => unreachable!("design has no {e:?}"),
+        }
+    }
+}
+
 /// Reads designs, and writes each back with its answer: `ok` and the registers; `refused`, the number and the bits
 /// of the f64 that it carries; or `loop-gain` where isdb-rs has a refusal that has no number.
 pub fn registers(input: impl BufRead, output: &mut impl Write) -> io::Result<()> {
     for line in input.lines() {
         let line = line?;
         let d = read(&line).ok_or_else(|| usage(&format!("not a design: {line}")))?;
-        let answer = match Params::design(&d) {
-            Ok(p) => format!(
+        let answer = match Answer::of(&d) {
+            Answer::Registers(p) => format!(
                 "ok,{},{},{},{},{},{},{},{},{},{},{},{}",
                 p.period_nominal,
                 p.period_min,
@@ -67,14 +90,9 @@ pub fn registers(input: impl BufRead, output: &mut impl Write) -> io::Result<()>
                 p.bits,
                 p.block_log2
             ),
-            Err(ParamError::SamplesPerSymbol { sps }) => {
-                format!("refused,14,{:016x}", sps.to_bits())
-            }
-            Err(ParamError::Taps { .. }) => "refused,15".to_string(),
-            Err(ParamError::Range { .. }) => "refused,16".to_string(),
-            Err(ParamError::Trim { trim }) => format!("refused,17,{:016x}", trim.to_bits()),
-            Err(ParamError::LoopGain { .. }) => "loop-gain".to_string(),
-            Err(e) => unreachable!("design has no {e:?}"),
+            Answer::Refused(number, None) => format!("refused,{number}"),
+            Answer::Refused(number, Some(x)) => format!("refused,{number},{:016x}", x.to_bits()),
+            Answer::LoopGain => "loop-gain".to_string(),
         };
         writeln!(output, "{}\n{answer}", text(&d))?;
     }

@@ -87,7 +87,7 @@ pub fn designs(seed: u64, count: u64, output: &mut impl Write) -> io::Result<()>
 // ---- designs
 
 /// A design as a receiver has it: ISDB-S, ISDB-S3 or another carrier.
-fn plausible(r: &mut Random) -> Design {
+pub fn plausible(r: &mut Random) -> Design {
     let mut d = match r.below(3) {
         0 => Design::new(40e6, 28.86e6, 0.35),
         1 => Design::new(r.pick(&[40e6, 50e6, 61.44e6]), 33.7561e6, 0.03),
@@ -118,7 +118,7 @@ fn plausible(r: &mut Random) -> Design {
 }
 
 /// A design in which any field may be strange: at a boundary or a bit beside it, infinite, or no number at all.
-fn any_design(r: &mut Random) -> Design {
+pub fn any_design(r: &mut Random) -> Design {
     let mut d = plausible(r);
     for _ in 0..r.below(3) {
         match r.below(8) {
@@ -156,7 +156,7 @@ fn strange(r: &mut Random, usual: f64) -> f64 {
 }
 
 /// x, or the float just above or below it.
-fn beside(r: &mut Random, x: f64) -> f64 {
+pub fn beside(r: &mut Random, x: f64) -> f64 {
     f64::from_bits(x.to_bits().wrapping_add_signed(r.between(-1, 1)))
 }
 

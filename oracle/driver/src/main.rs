@@ -2,6 +2,7 @@
 
 mod calls;
 mod design;
+mod floats;
 mod generate;
 mod leaves;
 mod path;
@@ -32,6 +33,10 @@ oracle: asks the Rust front end of isdb-rs
   oracle path KIND SEED COUNT         sheets, each run from its start in blocks, for replay_calls
   oracle states KIND SEED COUNT       states that no run reaches, with what a block and a reading make of them,
                                       for replay_calls
+  oracle samples STEP                 one of each STEP f32 by their bits, and all that stand out, with the samples
+                                      that they become, for replay_floats
+  oracle floats KIND SEED COUNT       answers on floats, for replay_floats; KIND is samples, designs, sheets or
+                                      small, sheets of few taps
   oracle recording KIND SEED PAIRS    an input of the symbol program
   oracle designs SEED COUNT           designs for `design`
 
@@ -67,6 +72,8 @@ fn run(words: &[&str], input: impl BufRead, output: &mut impl Write) -> io::Resu
         ["calls", kind, seed, count] => calls::write(kind, number(seed)?, number(count)?, output),
         ["path", kind, seed, count] => path::write(kind, number(seed)?, number(count)?, output),
         ["states", kind, seed, count] => states::write(kind, number(seed)?, number(count)?, output),
+        ["samples", step] => floats::samples(number(step)?, output),
+        ["floats", kind, seed, count] => floats::write(kind, number(seed)?, number(count)?, output),
         ["recording", kind, seed, pairs] => {
             generate::recording(kind, number(seed)?, number(pairs)?, output)
         }

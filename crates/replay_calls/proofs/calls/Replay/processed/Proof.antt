@@ -27,7 +27,7 @@ counted-requires c κs = search needs
 
 same-length : tie.Need-same-length
 same-length c =
-    let filled = c .before .before .before .before .before .before .before .before .before .before .before .before .before .before .fill in
+    let filled = c .before .before .before .before .before .before .before .before .before .before .before .before .before .before .before .fill in
     c .before .before .before .before .before .process .kept .1 .1 .1 .1 .1 .1 .0 ∙ filled .kept .0
 
 returns : tie.Need-returns

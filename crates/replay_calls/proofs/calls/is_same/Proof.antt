@@ -1,9 +1,9 @@
--- `replay_calls::rows::is_same` is safe and ends: each turn compares one more number of the first.
+-- `replay_calls::calls::is_same` is safe and ends: each turn compares one more number of the first.
 use Prim.Native.Nat.{_≤_, _-_}
 use lib.ListN.{length}
 use borrow.Author.Needs.{needs}
-use Rattle.replay_calls.proofs.rows.is_same.Statement.{statement}
-use Rattle.replay_calls.proofs.rows.is_same.Tie as tie
+use Rattle.replay_calls.proofs.calls.is_same.Statement.{statement}
+use Rattle.replay_calls.proofs.calls.is_same.Tie as tie
 
 abbrev Inv-loop : tie.InvT-loop
 Inv-loop a b n₀ n = n ≤ length a

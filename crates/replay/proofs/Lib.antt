@@ -1,0 +1,2 @@
+-- Laws of lists and of tests that the proofs share.
+mod Laws

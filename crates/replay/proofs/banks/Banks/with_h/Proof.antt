@@ -1,0 +1,19 @@
+-- `replay::banks::Banks::with_h` meets its contract: what is kept is h's part of the room and its length, and the others are left as they are.
+use borrow.Author.Needs.{needs}
+use Rattle.replay.proofs.banks.Banks.with_h.Statement.{statement}
+use Rattle.replay.proofs.banks.Banks.with_h.Tie as tie
+
+keep-requires : tie.Need-keep-requires
+keep-requires c κs = search needs
+
+same-length : tie.Need-same-length
+same-length c = search needs
+
+returns : tie.Need-returns
+returns c =
+    let e = c .before .keep .ensures in
+    let s = c .before .before .before .args .self in
+    (λ i. record { h = e .0 i; g = s .g; k = s .k }, e .1)
+
+pub with-h-spec : {M : Type 1} → statement M
+with-h-spec = tie.close (tie.spec keep-requires same-length returns)

@@ -1,0 +1,94 @@
+// Refusals in the numbers that a row has for them: a refusal's number (document 01) and what it carries, or 0.
+use crate::rows;
+use params::ParamError;
+ghost use mathlib.Core.Path.{_≡_};
+ghost use lib.IntN.{pos};
+ghost use Rattle.replay.specs.Rows.{signedBits};
+ghost use Rattle.replay.specs.Answers.{carriesNone, carriesOne, carriesThree, ofError, isAnswer};
+
+// A refusal, as so many numbers of the four. What it does not carry is 0.
+pub struct Answer {
+    pub long: usize,
+    pub number: i64,
+    pub first: i64,
+    pub second: i64,
+    pub third: i64,
+}
+
+// A refusal that carries nothing.
+pub fn alone(number: i64) -> Answer
+    ensures { λ r. ⌜ r ≡ carriesNone number ⌝ }
+{
+    Answer {
+        long: 1,
+        number,
+        first: 0,
+        second: 0,
+        third: 0,
+    }
+}
+
+fn of_bank(number: i64, bank: u8) -> Answer
+    ensures { λ r. ⌜ r ≡ carriesOne number (pos bank) ⌝ }
+{
+    Answer {
+        long: 2,
+        number,
+        first: bank as i64,
+        second: 0,
+        third: 0,
+    }
+}
+
+fn of_row(number: i64, bank: u8, phase: usize, carried: i64) -> Answer
+    ensures { λ r. ⌜ r ≡ carriesThree number (pos bank) (signedBits phase) carried ⌝ }
+{
+    Answer {
+        long: 4,
+        number,
+        first: bank as i64,
+        second: rows::i64_of(phase as u64),
+        third: carried,
+    }
+}
+
+// The refusal of a sheet.
+pub fn of_error(e: ParamError) -> Answer
+    ensures { λ r. ⌜ r ≡ ofError e ⌝ }
+{
+    match e {
+        ParamError::Taps => alone(1),
+        ParamError::BankLength => alone(2),
+        ParamError::Coefficient { bank, phase, value } => {
+            of_row(3, bank, phase, rows::wide(value))
+        }
+        ParamError::CoefficientSum { bank, phase, sum } => {
+            of_row(4, bank, phase, rows::i64_of(sum))
+        }
+        ParamError::DetectorTaps { bank } => of_bank(5, bank),
+        ParamError::PeriodBounds => alone(6),
+        ParamError::Range { field } => of_bank(7, field),
+        ParamError::AgcShift => alone(8),
+    }
+}
+
+impl Answer {
+    // Whether these are the answer's numbers, no fewer and no more. What the answer does not carry is 0, as what the numbers have no place for.
+    pub fn is(self, numbers: &[i64]) -> bool
+        ensures { λ r. ⌜ r ≡ isAnswer self (now (numbers .entry)) ⌝ }
+    {
+        if numbers.len() != self.long {
+            return false;
+        }
+        if rows::at(numbers, 0) != self.number {
+            return false;
+        }
+        if rows::at(numbers, 1) != self.first {
+            return false;
+        }
+        if rows::at(numbers, 2) != self.second {
+            return false;
+        }
+        rows::at(numbers, 3) == self.third
+    }
+}

@@ -1,0 +1,61 @@
+// Replays the oracle's answers on floats: samples, the registers of designs, and whole sheets of designs that are judged. Standard input has a row for each
+// answer, and rows of the banks and gains that a sheet takes; the program makes the call and counts where it answers something else.
+//
+// answers.rt has what the calls answer in the numbers of a row, and calls.rt does what the row says.
+mod answers;
+mod calls;
+
+use calls::Replay;
+use libc::STDOUT_FILENO;
+use replay::Cursor;
+use replay::Tally;
+
+struct Progress {
+    cursor: Cursor,
+    replay: Replay,
+}
+
+// The rows of one piece of the input.
+fn piece(before: Progress, bytes: &[u8], row: &mut [i64], room: &mut [i32]) -> Progress {
+    let mut cursor = before.cursor.in_next_piece();
+    let mut replay = before.replay;
+    while cursor.at < bytes.len() {
+        cursor = cursor.row(bytes, row);
+        if cursor.ended {
+            replay = replay.with(&*row, cursor.column, room);
+        }
+    }
+    Progress { cursor, replay }
+}
+
+fn report(t: Tally) {
+    io::print_decimal(STDOUT_FILENO, t.rows);
+    io::write_all(STDOUT_FILENO, b" answers on floats compared, ");
+    io::print_decimal(STDOUT_FILENO, t.wrong);
+    io::write_all(STDOUT_FILENO, b" differ");
+    if 0 < t.wrong {
+        io::write_all(STDOUT_FILENO, b", the first is answer ");
+        io::print_decimal(STDOUT_FILENO, t.first);
+    }
+    io::write_all(STDOUT_FILENO, b"\n");
+}
+
+fn main() {
+    let mut bytes = io::large_buffer();
+    let mut row = [0i64; 8192];
+    let mut room = [0i32; 24576];
+    let mut progress = Progress {
+        cursor: Cursor::new(),
+        replay: Replay::new(),
+    };
+    let mut turns = u64::MAX;
+    let mut n: usize = 1;
+    while 0 < turns && 0 < n {
+        let got = libc::read(libc::STDIN_FILENO, &mut bytes);
+        n = io::count(got, &bytes);
+        progress = piece(progress, &bytes[..n], &mut row, &mut room);
+        turns -= 1;
+    }
+    let replay = progress.replay;
+    report(replay.tally);
+}
