@@ -1,4 +1,4 @@
-// The six loop registers, lent: they change as one group behind a `&mut` (document 01: "after the core, one thin function lent the small register struct by &mut").
+// The six loop registers, lent: they change as one group behind a `&mut` (document 01: the six loop registers, once the core is there).
 use fixed::AfterSymbol;
 use fixed::Pending;
 use fixed::Registers;
