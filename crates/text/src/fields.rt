@@ -3,7 +3,7 @@ ghost use mathlib.Core.Path.{_≡_};
 ghost use Prim.Native.Nat.{_≤_, _<_, _^_, min};
 ghost use lib.ListN.{length, drop};
 ghost use lib.IntN.{pos};
-ghost use Rattle.text.specs.Number.{numeral};
+ghost use Rattle.text.specs.Number.{none, numeral};
 ghost use Rattle.text.specs.Field.{held, downOf, upOf, aboveZero, belowZero, fieldOf};
 use crate::Digits;
 use crate::Field;
@@ -27,17 +27,22 @@ fn cut(x: u64) -> u64
     0x100_0000_0000
 }
 
+fn no_number() -> Digits
+    ensures { λ r. ⌜ r ≡ held none ⌝ }
+{
+    Digits {
+        formed: false,
+        size: 0,
+    }
+}
+
 // The number whose digits are the bytes from `at` to the end.
 fn digits_from(s: &[u8], at: usize) -> Digits
     requires { ⌜ at ≤ length (now s) ⌝ }
     ensures { λ r. ⌜ r ≡ held (numeral (drop at (now (s .entry)))) ⌝ }
 {
-    let none = Digits {
-        formed: false,
-        size: 0,
-    };
     if s.len() <= at {
-        return none;
+        return no_number();
     }
     if s[at] == b'0' {
         return Digits {
@@ -50,10 +55,10 @@ fn digits_from(s: &[u8], at: usize) -> Digits
     while i < s.len() {
         let b = s[i];
         if b < b'0' {
-            return none;
+            return no_number();
         }
         if b'9' < b {
-            return none;
+            return no_number();
         }
         size = cut(size * 10 + wide(b - b'0'));
         i += 1;

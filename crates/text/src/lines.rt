@@ -1,7 +1,7 @@
 // A line: where it ends, and the fields that commas part it into.
 ghost use mathlib.Core.Path.{_≡_};
 ghost use Prim.Native.Nat.{_≤_, _+_, min, max};
-ghost use lib.ListN.{length, drop};
+ghost use lib.ListN.{length, drop, set};
 ghost use Rattle.text.specs.Line.{before, lineEndOf, numberOf, Reading};
 use crate::LONGEST;
 use crate::LineEnd;
@@ -69,6 +69,15 @@ fn number_of(fault: u8) -> u8
     18
 }
 
+// Sets a place, where there is one.
+fn put_value(v: i64, out: &mut [i64], n: usize)
+    ensures { λ _. ⌜ now (out .exit) ≡ set (now (out .entry)) n v ⌝ }
+{
+    if n < out.len() {
+        out[n] = v;
+    }
+}
+
 // Reads a line (without its line feed) as fields of these types, and puts their values at the start of `out`. The answer is 0, or the refusal's number: 18
 // where the line has another number of fields or one of wrong form, else 19 where a value is outside its type (document 01: the symbol program).
 pub fn read_line(s: &[u8], kinds: &[u8], out: &mut [i64]) -> u8
@@ -84,10 +93,7 @@ pub fn read_line(s: &[u8], kinds: &[u8], out: &mut [i64]) -> u8
             return 18;
         }
         fault = larger(fault, f.fault);
-        if n < out.len() {
-            let v = f.value;
-            out[n] = v;
-        }
+        put_value(f.value, out, n);
         n += 1;
         if end == s.len() {
             if n == kinds.len() {

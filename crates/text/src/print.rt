@@ -1,5 +1,7 @@
 // Numbers and lines, printed into a lent buffer from a place on. Each function answers the place behind what it wrote.
 ghost use mathlib.Core.Path.{_≡_};
+ghost use mathlib.Core.Bool.{cond};
+ghost use lib.Dec.{ltb};
 ghost use Prim.Native.Nat.{_≤_, _<_, _+_, _*_};
 ghost use lib.ListN.{length};
 ghost use Rattle.text.specs.Number.{decimal, lastDigits, magnitudeOf, textOf};
@@ -33,6 +35,7 @@ fn glyph(d: u64) -> u8
 fn put_digits(n: u64, out: &mut [u8], at: usize) -> usize
     requires { ⌜ at + 20 ≤ length (now out) ⌝ }
     ensures { λ r. ⌜ Put (decimal n) (now (out .entry)) at r (now (out .exit)) ⌝ }
+    ensures { λ r. ⌜ r ≤ at + 20 ⌝ }
 {
     let k = width(n);
     let mut i = k;
@@ -57,6 +60,7 @@ fn magnitude(z: i64) -> u64
 fn put_number(z: i64, out: &mut [u8], at: usize) -> usize
     requires { ⌜ at + 21 ≤ length (now out) ⌝ }
     ensures { λ r. ⌜ Put (textOf z) (now (out .entry)) at r (now (out .exit)) ⌝ }
+    ensures { λ r. ⌜ r ≤ at + 21 ⌝ }
 {
     if 0 <= z {
         return put_digits(magnitude(z), out, at);
@@ -77,6 +81,16 @@ fn put_bytes(s: &[u8], out: &mut [u8], at: usize) -> usize
     at + i
 }
 
+// What stands behind the first n of so many numbers.
+fn behind(n: usize, count: usize) -> u8
+    ensures { λ r. ⌜ r ≡ cond (ltb n count) 44 10 ⌝ }
+{
+    if n < count {
+        return b',';
+    }
+    b'\n'
+}
+
 // Prints numbers as a line, or nothing where 22 bytes a number do not fit.
 pub fn put_row(values: &[i64], out: &mut [u8], at: usize) -> usize
     ensures { λ r. ⌜ Put (roomed (22 * length (now (values .entry))) (now (out .entry)) at (rowOf (now (values .entry)))) (now (out .entry)) at r (now (out .exit)) ⌝ }
@@ -92,11 +106,7 @@ pub fn put_row(values: &[i64], out: &mut [u8], at: usize) -> usize
     while n < values.len() {
         p = put_number(values[n], out, p);
         n += 1;
-        if n < values.len() {
-            out[p] = b',';
-        } else {
-            out[p] = b'\n';
-        }
+        out[p] = behind(n, values.len());
         p += 1;
     }
     p

@@ -1,53 +1,71 @@
+-- `text::print::put_bytes` meets its contract: setting what is left of the bytes, behind those that are set, gives what setting all gives.
+-- At the end nothing is left.
+use mathlib.Core.Path.{_≡_, refl, sym, ap, _∙_}
+use mathlib.Core.List.{List}
+use Prim.Native.Nat.{ℕ, suc, _+_, _-_, _≤_, _<_}
+use native.Mathlib.Nat.{add-zero}
+use native.Mathlib.Numerals.{add-one}
+use native.Mathlib.Omega.{arith}
+use lib.ListN.{length, drop, getD, set, length-set, drop-of-length-le}
+use lib.Seq.{sets, drop-cons}
+use denote.Ref.{now}
 use Rattle.text.proofs.print.put_bytes.Statement.{statement}
 use Rattle.text.proofs.print.put_bytes.Tie as tie
-use Rattle.text.proofs.print.put_bytes.Reads as reads
-use Rattle.text.proofs.print.put_bytes.Lts as lts
 
 abbrev Inv-loop : tie.InvT-loop
-Inv-loop s out₀ at i₀ out i = ?
+Inv-loop s out₀ at i₀ out i = (length out ≡ length out₀) × (i ≤ length s) × (sets out₀ at s ≡ sets out (at + i) (drop i s))
 
 abbrev μ-loop : tie.MeasureT-loop
-μ-loop s out₀ at i₀ out i = ?
+μ-loop s out₀ at i₀ out i = length s - i
 
--- src/print.rt:73:5
 loop-holds : tie.Need-loop-holds Inv-loop μ-loop
-loop-holds c = ?
+loop-holds c =
+    let a = c .args in
+    (refl, omega arith, ap (λ (k : ℕ). sets (now (a .out)) k (now (a .s))) (sym (add-zero (a .at))))
 
--- src/print.rt:74:23
 shared-slice-read-out : tie.Need-shared-slice-read-out Inv-loop μ-loop
-shared-slice-read-out c = ?
+shared-slice-read-out c = omega arith
 
--- src/print.rt:74:13
 add-out : tie.Need-add-out Inv-loop μ-loop
-add-out c = ?
+add-out c = omega arith
 
--- src/print.rt:74:9
 slice-write-out : tie.Need-slice-write-out Inv-loop μ-loop
-slice-write-out c = ?
+slice-write-out c = omega arith
 
--- src/print.rt:75:9
 add-i : tie.Need-add-i Inv-loop μ-loop
-add-i c = ?
+add-i c = omega arith
 
--- src/print.rt:73:5
 loop-less : tie.Need-loop-less Inv-loop μ-loop
-loop-less c = ?
+loop-less c = omega arith
 
--- src/print.rt:73:5
 loop-again : tie.Need-loop-again Inv-loop μ-loop
-loop-again c = ?
+loop-again c =
+    let l = c .before .before .loop in
+    let a = c .before .before .before .args in
+    let s = now (a .s) in
+    let h : l .i < length s = c .before .loop-test .taken in
+    let e : suc (a .at + l .i) ≡ a .at + (l .i + 1) = omega arith in (
+      simp length-set (omega arith),
+      omega arith,
+      l .inv .2
+          ∙ ap (λ (r : List ℕ). sets (l .out) (a .at + l .i) r) (drop-cons s (l .i) 0 h)
+          ∙ ap (λ (k : ℕ). sets (set (l .out) (a .at + l .i) (getD s (l .i) 0)) k (drop (suc (l .i)) s)) e
+          ∙ ap (λ (k : ℕ). sets (set (l .out) (a .at + l .i) (getD s (l .i) 0)) (a .at + (l .i + 1)) (drop k s)) (sym (add-one (l .i))),
+    )
 
--- src/print.rt:77:5
 add-result : tie.Need-add-result Inv-loop μ-loop
-add-result c = ?
+add-result c = omega arith
 
--- src/print.rt:68:1
 same-length : tie.Need-same-length Inv-loop μ-loop
-same-length c = ?
+same-length c = omega arith
 
--- src/print.rt:68:1
 returns : tie.Need-returns Inv-loop μ-loop
-returns c = ?
+returns c =
+    let l = c .before .loop in
+    let a = c .before .before .args in
+    let s = now (a .s) in
+    let h : length s ≤ l .i = c .loop-test .left in
+    record { end = omega arith; bytes = sym (l .inv .2 ∙ ap (λ (r : List ℕ). sets (l .out) (a .at + l .i) r) (drop-of-length-le s h)) }
 
 pub put-bytes-spec : {M : Type 1} → statement M
 put-bytes-spec =
