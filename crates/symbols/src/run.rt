@@ -22,7 +22,7 @@ struct Block {
 }
 
 // What the pairs so far leave.
-struct Run {
+struct Progress {
     state: Frontend,
     rest: Input,
     line: u64,
@@ -58,7 +58,12 @@ fn block_of(before: Input, first: u64, values: &mut [i16], bytes: &mut [u8]) -> 
     }
 }
 
-impl Run {
+impl Progress {
+    fn goes_on(self) -> bool {
+        let stop = self.stop;
+        stop.is_no()
+    }
+
     // With one block more. Its symbols are printed, whatever stops behind it.
     fn with_block(
         self,
@@ -70,7 +75,7 @@ impl Run {
         places: &mut [i64],
         bytes: &mut [u8],
         out: &mut [u8],
-    ) -> Run {
+    ) -> Progress {
         let block = block_of(self.rest, self.line, values, bytes);
         let used = input::least(2 * block.pairs, values.len());
         let given = self.state;
@@ -88,7 +93,7 @@ impl Run {
             stop = Stop::Failed;
         }
         let rest = block.rest;
-        Run {
+        Progress {
             state,
             rest,
             line: std::num::wrapping_add_u64(self.line, block.pairs as u64),
@@ -132,7 +137,7 @@ pub(crate) fn run(
         stop = Stop::Refused { number, line: 0 };
     }
     let rest = head.rest;
-    let mut r = Run {
+    let mut r = Progress {
         state,
         rest,
         line: FIRST,
@@ -140,7 +145,7 @@ pub(crate) fn run(
         stop,
     };
     let mut turns = u64::MAX;
-    while 0 < turns && r.stop.is_no() {
+    while 0 < turns && r.goes_on() {
         r = r.with_block(params, h, g, k, &mut values, &mut places, bytes, out);
         turns -= 1;
     }

@@ -31,7 +31,7 @@ const FIELDS: [u8; 17] = [
 ];
 
 // The rows of a bank.
-const ROWS: usize = 64;
+const ROWS: u64 = 64;
 
 // A sheet as far as it is read, what is behind it in the input, and what stopped the reading.
 pub(crate) struct Head {
@@ -80,16 +80,17 @@ fn has_good_taps(params: Params) -> bool {
     refusal::of_verdict(params.validate(&[], &[], &[])) != 1
 }
 
-// Puts a row of coefficients into its place in a bank.
-fn keep_row(values: &[i64], taps: usize, row: usize, room: &mut [i32]) {
-    let start = input::least(row * taps, room.len());
-    let n = input::least(taps, input::least(values.len(), room.len() - start));
+// Puts a row of coefficients into a bank from a place on, and says where the next begins.
+fn keep_row(values: &[i64], room: &mut [i32], from: usize) -> usize {
+    let start = input::least(from, room.len());
+    let n = input::least(values.len(), room.len() - start);
     let mut i: usize = 0;
     while i < n {
         let c = arith::wrap_i32(values[i]);
         room[start + i] = c;
         i += 1;
     }
+    start + n
 }
 
 impl Head {
@@ -98,7 +99,8 @@ impl Head {
         let mut values = [0i64; 17];
         let taken = Input::new().take(1, &FIELDS, &mut values, bytes);
         let rest = taken.rest;
-        let stop = taken.stop.before(1);
+        let found = taken.stop;
+        let stop = found.before(1);
         let params = params_of(&values);
         if stop.is_no() && !has_good_taps(params) {
             return Head {
@@ -113,7 +115,7 @@ impl Head {
     // The numbers of a bank.
     pub(crate) fn long(self) -> usize {
         let params = self.params;
-        input::least(params.taps as usize, 64) * ROWS
+        input::least(params.taps as usize, 64) * 64
     }
 
     // With a bank, whose rows begin at this line.
@@ -124,13 +126,15 @@ impl Head {
         let mut values = [0i64; 64];
         let kinds = [I32; 64];
         let taps = input::least(params.taps as usize, 64);
-        let mut row: usize = 0;
+        let mut from: usize = 0;
+        let mut row: u64 = 0;
         while row < ROWS && stop.is_no() {
-            let line = std::num::wrapping_add_u64(first, row as u64);
+            let line = std::num::wrapping_add_u64(first, row);
             let taken = rest.take(line, &kinds[..taps], &mut values, bytes);
             rest = taken.rest;
-            stop = taken.stop.before(line);
-            keep_row(&values, taps, row, room);
+            let found = taken.stop;
+            stop = found.before(line);
+            from = keep_row(&values[..taps], room, from);
             row += 1;
         }
         Head { params, rest, stop }

@@ -31,7 +31,7 @@ fn glyph(d: u64) -> u8
     48 + d as u8
 }
 
-// The digits go in from the last to the first.
+// The digits go in from the last to the first, two by two: half as many divisions wait for one another.
 fn put_digits(n: u64, out: &mut [u8], at: usize) -> usize
     requires { ⌜ at + 20 ≤ length (now out) ⌝ }
     ensures { λ r. ⌜ Put (decimal n) (now (out .entry)) at r (now (out .exit)) ⌝ }
@@ -40,10 +40,15 @@ fn put_digits(n: u64, out: &mut [u8], at: usize) -> usize
     let k = width(n);
     let mut i = k;
     let mut v = n;
-    while 0 < i {
-        i -= 1;
-        out[at + i] = glyph(v % 10);
-        v = v / 10;
+    while 1 < i {
+        i -= 2;
+        out[at + i + 1] = glyph(v % 10);
+        out[at + i] = glyph(v % 100 / 10);
+        v = v / 100;
+    }
+    if 0 < i {
+        out[at] = glyph(v % 10);
+        return at + k;
     }
     at + k
 }
