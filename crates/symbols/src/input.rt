@@ -48,7 +48,7 @@ pub(crate) fn least(a: usize, b: usize) -> usize
 }
 
 // The bytes from one place to before another, as far as there are any.
-fn part(bytes: &[u8], from: usize, to: usize) -> &[u8] {
+pub(crate) fn part(bytes: &[u8], from: usize, to: usize) -> &[u8] {
     let end = least(to, bytes.len());
     let at = least(from, end);
     &bytes[at..end]

@@ -8,13 +8,10 @@ mod refusal;
 mod run;
 mod sheet;
 
-use output::Output;
-use refusal::Stop;
 use sheet::Head;
 
 fn main() {
     let mut bytes = io::large_buffer();
-    let mut out = io::large_buffer();
     let mut h = [0i32; 4096];
     let mut g = [0i32; 4096];
     let mut k = [0i32; 4096];
@@ -23,11 +20,12 @@ fn main() {
     head = head.with_bank(66, &mut g, &mut bytes);
     head = head.with_bank(130, &mut k, &mut bytes);
     let long = head.long();
+    let mut out = io::large_buffer();
     let left = run::run(
         head,
-        &h[..long],
-        &g[..long],
-        &k[..long],
+        &h[0..long],
+        &g[0..long],
+        &k[0..long],
         &mut bytes,
         &mut out,
     );

@@ -26,11 +26,10 @@ impl Output {
 
     // Writes what waits. A reader that has gone ends the program quietly, by a signal or here.
     pub(crate) fn flushed(self, out: &[u8]) -> Output {
-        let waiting = input::least(self.waiting, out.len());
         if !self.good {
             return self;
         }
-        if io::write_all(libc::STDOUT_FILENO, &out[..waiting]) {
+        if io::write_all(libc::STDOUT_FILENO, input::part(out, 0, self.waiting)) {
             return Output::new();
         }
         if os::errno() != libc::EPIPE {

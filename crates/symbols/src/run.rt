@@ -14,9 +14,9 @@ const PAIR: [u8; 2] = [I16, I16];
 // The first line of a pair.
 const FIRST: u64 = 194;
 
-// How many pairs a block has, what is behind them, and what stopped before it was full.
+// How many sample values a block has, two a pair, what is behind them, and what stopped before it was full.
 struct Block {
-    pairs: usize,
+    used: usize,
     rest: Input,
     stop: Stop,
 }
@@ -28,6 +28,14 @@ struct Progress {
     line: u64,
     output: Output,
     stop: Stop,
+}
+
+// Puts a pair into its places. Both numbers are within 16 bits, so that nothing is clamped.
+fn keep_pair(pair: &[i64; 2], values: &mut [i16], n: usize) {
+    if n < values.len() / 2 {
+        values[2 * n] = arith::sat16(pair[0]);
+        values[2 * n + 1] = arith::sat16(pair[1]);
+    }
 }
 
 // Takes pairs, from this line on, until there is no place for more.
@@ -42,17 +50,16 @@ fn block_of(before: Input, first: u64, values: &mut [i16], bytes: &mut [u8]) -> 
         let stop = taken.stop;
         if !stop.is_no() {
             return Block {
-                pairs: n,
+                used: 2 * n,
                 rest,
                 stop,
             };
         }
-        values[2 * n] = arith::sat16(pair[0]);
-        values[2 * n + 1] = arith::sat16(pair[1]);
+        keep_pair(&pair, values, n);
         n += 1;
     }
     Block {
-        pairs: n,
+        used: 2 * n,
         rest,
         stop: Stop::No,
     }
@@ -77,9 +84,9 @@ impl Progress {
         out: &mut [u8],
     ) -> Progress {
         let block = block_of(self.rest, self.line, values, bytes);
-        let used = input::least(2 * block.pairs, values.len());
+        let used = input::least(block.used, values.len());
         let given = self.state;
-        let done = given.process(params, h, g, k, &values[..used], places);
+        let done = given.process(params, h, g, k, &values[0..used], places);
         let state = done.state;
         let verdict = done.verdict;
         let number = refusal::of_frontend(verdict);
@@ -96,7 +103,7 @@ impl Progress {
         Progress {
             state,
             rest,
-            line: std::num::wrapping_add_u64(self.line, block.pairs as u64),
+            line: std::num::wrapping_add_u64(self.line, (used / 2) as u64),
             output,
             stop,
         }

@@ -1,4 +1,5 @@
 // The first 193 lines: the sheet's 17 fields, and 64 rows of each bank.
+ghost use Prim.Native.Nat.{_≤_};
 use crate::input;
 use crate::input::Input;
 use crate::refusal;
@@ -113,7 +114,9 @@ impl Head {
     }
 
     // The numbers of a bank.
-    pub(crate) fn long(self) -> usize {
+    pub(crate) fn long(self) -> usize
+        ensures { λ r. ⌜ r ≤ 4096 ⌝ }
+    {
         let params = self.params;
         input::least(params.taps as usize, 64) * 64
     }
@@ -130,11 +133,11 @@ impl Head {
         let mut row: u64 = 0;
         while row < ROWS && stop.is_no() {
             let line = std::num::wrapping_add_u64(first, row);
-            let taken = rest.take(line, &kinds[..taps], &mut values, bytes);
+            let taken = rest.take(line, &kinds[0..taps], &mut values, bytes);
             rest = taken.rest;
             let found = taken.stop;
             stop = found.before(line);
-            from = keep_row(&values[..taps], room, from);
+            from = keep_row(&values[0..taps], room, from);
             row += 1;
         }
         Head { params, rest, stop }

@@ -1,79 +1,65 @@
+-- `symbols::sheet::keep_row` is safe and ends: the coefficients that fit are put into the places behind the start.
+use mathlib.Core.Path.{_≡_}
+use Prim.Native.Nat.{_-_, _≤_}
+use native.Mathlib.Omega.{arith}
+use lib.ListN.{length, length-set}
+use borrow.Author.Needs.{needs}
 use Rattle.symbols.proofs.sheet.keep_row.Statement.{statement}
 use Rattle.symbols.proofs.sheet.keep_row.Tie as tie
-use Rattle.symbols.proofs.sheet.keep_row.Reads as reads
-use Rattle.symbols.proofs.sheet.keep_row.Lts as lts
-use Rattle.arith.proofs.wrap_i32.Reads as wrap-i32-reads
-use Rattle.symbols.proofs.input.least.Reads as least-reads
 
 abbrev Inv-loop : tie.InvT-loop
-Inv-loop values room₀ from start n i₀ room i = ?
+Inv-loop values room₀ from start n i₀ room i = (length room ≡ length room₀) × (i ≤ n)
 
 abbrev μ-loop : tie.MeasureT-loop
-μ-loop values room₀ from start n i₀ room i = ?
+μ-loop values room₀ from start n i₀ room i = n - i
 
--- src/sheet.rt:85:9
 least-requires : tie.Need-least-requires Inv-loop μ-loop
-least-requires c κs = ?
+least-requires c κs = search needs
 
--- src/sheet.rt:86:40
 sub-least : tie.Need-sub-least Inv-loop μ-loop
-sub-least c = ?
+sub-least c = search needs
 
--- src/sheet.rt:86:9
 least-requires-2 : tie.Need-least-requires-2 Inv-loop μ-loop
-least-requires-2 c κs = ?
+least-requires-2 c κs = search needs
 
--- src/sheet.rt:88:5
 loop-holds : tie.Need-loop-holds Inv-loop μ-loop
-loop-holds c = ?
+loop-holds c = search needs
 
--- src/sheet.rt:89:33
 mul-wrap-i32 : tie.Need-mul-wrap-i32 Inv-loop μ-loop
-mul-wrap-i32 c = ?
+mul-wrap-i32 c = search needs
 
--- src/sheet.rt:89:33
 shared-slice-copy-out-wrap-i32 : tie.Need-shared-slice-copy-out-wrap-i32 Inv-loop μ-loop
-shared-slice-copy-out-wrap-i32 c = ?
+shared-slice-copy-out-wrap-i32 c = search needs
 
--- src/sheet.rt:89:13
 wrap-i32-requires : tie.Need-wrap-i32-requires Inv-loop μ-loop
-wrap-i32-requires c κs = ?
+wrap-i32-requires c κs = search needs
 
--- src/sheet.rt:90:14
 add-c : tie.Need-add-c Inv-loop μ-loop
-add-c c = ?
+add-c c = search needs
 
--- src/sheet.rt:90:9
 mul-c : tie.Need-mul-c Inv-loop μ-loop
-mul-c c = ?
+mul-c c = search needs
 
--- src/sheet.rt:90:9
 slice-set-from-c : tie.Need-slice-set-from-c Inv-loop μ-loop
-slice-set-from-c c = ?
+slice-set-from-c c = search needs
 
--- src/sheet.rt:91:9
 add-i : tie.Need-add-i Inv-loop μ-loop
-add-i c = ?
+add-i c = search needs
 
--- src/sheet.rt:88:5
 loop-less : tie.Need-loop-less Inv-loop μ-loop
-loop-less c = ?
+loop-less c = search needs
 
--- src/sheet.rt:88:5
 loop-again : tie.Need-loop-again Inv-loop μ-loop
-loop-again c = ?
+loop-again c = (simp length-set (omega arith), omega arith)
 
--- src/sheet.rt:93:5
 add-result : tie.Need-add-result Inv-loop μ-loop
-add-result c = ?
+add-result c = search needs
 
--- src/sheet.rt:84:1
 same-length : tie.Need-same-length Inv-loop μ-loop
-same-length c = ?
+same-length c = search needs
 
--- src/sheet.rt:84:1
 returns : tie.Need-returns Inv-loop μ-loop
-returns c = ?
+returns c = search needs
 
 pub keep-row-spec : {M : Type 1} → statement M
 keep-row-spec =

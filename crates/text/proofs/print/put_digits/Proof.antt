@@ -54,7 +54,7 @@ one-left out at i v g e f =
 put : (n k at : ℕ) (out left : List ℕ) → decimal n ≡ lastDigits k n → sets out at (lastDigits k n) ≡ left → Put (decimal n) out at (at + k) left
 put n k at out left e s = record {
   end = ap (λ (m : ℕ). at + m) (sym (ap (λ (d : List ℕ). length d) e ∙ W.length-last k n));
-  bytes = sym (ap (λ (d : List ℕ). sets out at d) e ∙ s)
+  bytes = sym (ap (λ (d : List ℕ). sets out at d) e ∙ s);
 }
 
 width-requires : tie.Need-width-requires Inv-loop μ-loop
@@ -114,10 +114,11 @@ returns c =
     let l = c .before .before .before .loop in
     let w = c .before .before .before .before .width in
     let a = c .before .before .before .before .before .before .args in
-    let z : l .i ≡ 1 = omega arith in
-    (put (a .n) (w .result) (a .at) (now (a .out)) (set (l .out) (a .at) (c .glyph3 .result)) (w .ensures .0)
-      (l .inv .2 ∙ one-left (l .out) (a .at) (l .i) (l .v) (c .glyph3 .result) z (c .glyph3 .ensures)),
-      omega arith)
+    let z : l .i ≡ 1 = omega arith in (
+      put (a .n) (w .result) (a .at) (now (a .out)) (set (l .out) (a .at) (c .glyph3 .result)) (w .ensures .0)
+          (l .inv .2 ∙ one-left (l .out) (a .at) (l .i) (l .v) (c .glyph3 .result) z (c .glyph3 .ensures)),
+      omega arith,
+    )
 
 add-result-2 : tie.Need-add-result-2 Inv-loop μ-loop
 add-result-2 c = omega arith

@@ -1,76 +1,61 @@
+-- `symbols::output::Output::with_symbols` is safe and ends: each symbol has its 20 places, and the buffer keeps its length.
+use mathlib.Core.Path.{_≡_}
+use Prim.Native.Nat.{_-_, _≤_}
+use lib.ListN.{length}
+use borrow.Author.Needs.{needs}
 use Rattle.symbols.proofs.output.Output.with_symbols.Statement.{statement}
 use Rattle.symbols.proofs.output.Output.with_symbols.Tie as tie
-use Rattle.symbols.proofs.output.Output.with_symbols.Reads as reads
-use Rattle.symbols.proofs.output.Output.with_symbols.Lts as lts
-use Rattle.symbols.proofs.input.least.Reads as least-reads
-use Rattle.symbols.proofs.output.Output.with_room.Reads as with-room-reads
-use Rattle.text.proofs.put_row.Reads as put-row-reads
 
 abbrev Inv-loop : tie.InvT-loop
-Inv-loop places count out₀ left₀ most n₀ out left n = ?
+Inv-loop places count out₀ left₀ most n₀ out left n = (length out ≡ length out₀) × (n ≤ most)
 
 abbrev μ-loop : tie.MeasureT-loop
-μ-loop places count out₀ left₀ most n₀ out left n = ?
+μ-loop places count out₀ left₀ most n₀ out left n = most - n
 
--- src/output.rt:57:13
 least-requires : tie.Need-least-requires Inv-loop μ-loop
-least-requires c κs = ?
+least-requires c κs = search needs
 
--- src/output.rt:59:9
 loop-holds : tie.Need-loop-holds Inv-loop μ-loop
-loop-holds c = ?
+loop-holds c = search needs
 
--- src/output.rt:60:13
 with-room-requires : tie.Need-with-room-requires Inv-loop μ-loop
-with-room-requires c κs = ?
+with-room-requires c κs = search needs
 
--- src/output.rt:61:24
 mul-from : tie.Need-mul-from Inv-loop μ-loop
-mul-from c = ?
+mul-from c = search needs
 
--- src/output.rt:62:22
 add-to : tie.Need-add-to Inv-loop μ-loop
-add-to c = ?
+add-to c = search needs
 
--- src/output.rt:63:42
 mul-put-row : tie.Need-mul-put-row Inv-loop μ-loop
-mul-put-row c = ?
+mul-put-row c = search needs
 
--- src/output.rt:63:42
 sub-put-row : tie.Need-sub-put-row Inv-loop μ-loop
-sub-put-row c = ?
+sub-put-row c = search needs
 
--- src/output.rt:63:42
 part-put-row-start : tie.Need-part-put-row-start Inv-loop μ-loop
-part-put-row-start c = ?
+part-put-row-start c = search needs
 
--- src/output.rt:63:42
 part-put-row-end : tie.Need-part-put-row-end Inv-loop μ-loop
-part-put-row-end c = ?
+part-put-row-end c = search needs
 
--- src/output.rt:63:13
 put-row-requires : tie.Need-put-row-requires Inv-loop μ-loop
-put-row-requires c κs = ?
+put-row-requires c κs = search needs
 
--- src/output.rt:64:13
 add-n : tie.Need-add-n Inv-loop μ-loop
-add-n c = ?
+add-n c = search needs
 
--- src/output.rt:59:9
 loop-less : tie.Need-loop-less Inv-loop μ-loop
-loop-less c = ?
+loop-less c = search needs
 
--- src/output.rt:59:9
 loop-again : tie.Need-loop-again Inv-loop μ-loop
-loop-again c = ?
+loop-again c = search needs
 
--- src/output.rt:55:5
 same-length : tie.Need-same-length Inv-loop μ-loop
-same-length c = ?
+same-length c = search needs
 
--- src/output.rt:55:5
 returns : tie.Need-returns Inv-loop μ-loop
-returns c = ?
+returns c = search needs
 
 pub with-symbols-spec : {M : Type 1} → statement M
 with-symbols-spec =
