@@ -10,9 +10,11 @@ ISDB_RS ?= ../shared/docs/src
 .PHONY: run test oracle archive bench clean kit
 
 run: kit
-	@echo "Proving and linking the replay programs and what they stand on (some minutes from nothing) .."
+	@echo "Proving and linking the symbol program, the replay programs and what they stand on (some minutes from nothing) .."
 	@mkdir -p target
-	@$(RT) check replay_leaves replay_calls replay_floats >target/run.out 2>&1 || { tail -n 20 target/run.out; exit 1; }
+	@$(RT) check symbols replay_leaves replay_calls replay_floats >target/run.out 2>&1 || { tail -n 20 target/run.out; exit 1; }
+	@echo "The symbols of crates/symbols/stdin, a sheet, its banks and three pairs:"
+	@target/bin/symbols <crates/symbols/stdin
 	@echo "Replaying the answers of isdb-rs that are stored in crates/replay_*/stdin:"
 	@target/bin/replay_leaves <crates/replay_leaves/stdin
 	@target/bin/replay_calls <crates/replay_calls/stdin

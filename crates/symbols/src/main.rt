@@ -1,0 +1,33 @@
+// The symbol program: a sheet and samples in decimal on standard input, each symbol's places on standard output (document 01: the symbol program).
+//
+// The input goes through one buffer, line by line (input.rt). The first 193 lines are the sheet with its banks (sheet.rt); then the pairs go through the front
+// end in blocks (run.rt), and their symbols through a second buffer to the output (output.rt). The memory is the same however long the input is.
+mod input;
+mod output;
+mod refusal;
+mod run;
+mod sheet;
+
+use sheet::Head;
+
+fn main() {
+    let mut bytes = io::large_buffer();
+    let mut h = [0i32; 4096];
+    let mut g = [0i32; 4096];
+    let mut k = [0i32; 4096];
+    let mut head = Head::of_line(&mut bytes);
+    head = head.with_bank(2, &mut h, &mut bytes);
+    head = head.with_bank(66, &mut g, &mut bytes);
+    head = head.with_bank(130, &mut k, &mut bytes);
+    let long = head.long();
+    let mut out = io::large_buffer();
+    let left = run::run(
+        head,
+        &h[0..long],
+        &g[0..long],
+        &k[0..long],
+        &mut bytes,
+        &mut out,
+    );
+    left.flushed(&out);
+}

@@ -1,0 +1,160 @@
+// The pairs, through the front end in blocks. What is printed does not depend on their size.
+use crate::input;
+use crate::input::Input;
+use crate::output::Output;
+use crate::refusal;
+use crate::refusal::Stop;
+use crate::sheet::Head;
+use fixed::Frontend;
+use params::Params;
+use text::I16;
+
+const PAIR: [u8; 2] = [I16, I16];
+
+// The first line of a pair.
+const FIRST: u64 = 194;
+
+// How many sample values a block has, two a pair, what is behind them, and what stopped before it was full.
+struct Block {
+    used: usize,
+    rest: Input,
+    stop: Stop,
+}
+
+// What the pairs so far leave.
+struct Progress {
+    state: Frontend,
+    rest: Input,
+    line: u64,
+    output: Output,
+    stop: Stop,
+}
+
+// Puts a pair into its places. Both numbers are within 16 bits, so that nothing is clamped.
+fn keep_pair(pair: &[i64; 2], values: &mut [i16], n: usize) {
+    if n < values.len() / 2 {
+        values[2 * n] = arith::sat16(pair[0]);
+        values[2 * n + 1] = arith::sat16(pair[1]);
+    }
+}
+
+// Takes pairs, from this line on, until there is no place for more.
+fn block_of(before: Input, first: u64, values: &mut [i16], bytes: &mut [u8]) -> Block {
+    let mut pair = [0i64; 2];
+    let mut rest = before;
+    let mut n: usize = 0;
+    while n < values.len() / 2 {
+        let line = std::num::wrapping_add_u64(first, n as u64);
+        let taken = rest.take(line, &PAIR, &mut pair, bytes);
+        rest = taken.rest;
+        let stop = taken.stop;
+        if !stop.is_no() {
+            return Block {
+                used: 2 * n,
+                rest,
+                stop,
+            };
+        }
+        keep_pair(&pair, values, n);
+        n += 1;
+    }
+    Block {
+        used: 2 * n,
+        rest,
+        stop: Stop::No,
+    }
+}
+
+impl Progress {
+    fn goes_on(self) -> bool {
+        let stop = self.stop;
+        stop.is_no()
+    }
+
+    // With one block more. Its symbols are printed, whatever stops behind it.
+    fn with_block(
+        self,
+        params: Params,
+        h: &[i32],
+        g: &[i32],
+        k: &[i32],
+        values: &mut [i16],
+        places: &mut [i64],
+        bytes: &mut [u8],
+        out: &mut [u8],
+    ) -> Progress {
+        let block = block_of(self.rest, self.line, values, bytes);
+        let used = input::least(block.used, values.len());
+        let given = self.state;
+        let done = given.process(params, h, g, k, &values[0..used], places);
+        let state = done.state;
+        let verdict = done.verdict;
+        let number = refusal::of_frontend(verdict);
+        let before = self.output;
+        let output = before.with_symbols(places, done.count, out);
+        let mut stop = block.stop;
+        if 0 < number {
+            stop = Stop::Refused { number, line: 0 };
+        }
+        if !output.is_good() {
+            stop = Stop::Failed;
+        }
+        let rest = block.rest;
+        Progress {
+            state,
+            rest,
+            line: std::num::wrapping_add_u64(self.line, (used / 2) as u64),
+            output,
+            stop,
+        }
+    }
+
+    // With the last line.
+    fn ended(self, out: &mut [u8]) -> Output {
+        let state = self.state;
+        let registers = state.registers;
+        let output = self.output;
+        let stop = self.stop;
+        match stop {
+            Stop::Refused { number, line } => output.with_refusal(number, line, out),
+            Stop::End => output.with_end(state.samples, registers.symbols, registers.t_acc, out),
+            _ => output,
+        }
+    }
+}
+
+// Runs the front end on the sheet that the head read, or prints why it can't.
+pub(crate) fn run(
+    head: Head,
+    h: &[i32],
+    g: &[i32],
+    k: &[i32],
+    bytes: &mut [u8],
+    out: &mut [u8],
+) -> Output {
+    let mut values = [0i16; 2048];
+    let mut places = [0i64; 20480];
+    let params = head.params;
+    let started = Frontend::new(params, h, g, k);
+    let verdict = started.verdict;
+    let number = refusal::of_verdict(verdict);
+    let state = started.state;
+    let mut stop = head.stop;
+    if stop.is_no() && 0 < number {
+        stop = Stop::Refused { number, line: 0 };
+    }
+    let rest = head.rest;
+    let mut r = Progress {
+        state,
+        rest,
+        line: FIRST,
+        output: Output::new(),
+        stop,
+    };
+    let mut turns = u64::MAX;
+    while 0 < turns && r.goes_on() {
+        r = r.with_block(params, h, g, k, &mut values, &mut places, bytes, out);
+        turns -= 1;
+    }
+    r.ended(out)
+}

@@ -1,0 +1,4 @@
+pub mod Reading
+pub mod Parting
+pub mod Writing
+pub mod Inverse

@@ -1,0 +1,77 @@
+-- `text::fields::below_zero` meets its contract: each answer is that of the tests which led to it.
+-- A number up to `down` is far below 2^63, so that its negative is exact.
+use mathlib.Core.Path.{_≡_, refl, sym, ap, _∙_, subst}
+use Prim.Native.Nat.{ℕ, zero, suc, _^_, _<_}
+use native.Mathlib.Omega.{arith}
+use lib.IntN.{ℤ, pos, negℤ, _-ℤ_, +ℤ-idl}
+use mir.Syntax.{w64}
+use mir.Val.{toZ, SFits}
+use mir.Facts.{toZ-pos, toZ-ofZ}
+use borrow.Author.Needs.{needs}
+use borrow.Author.Tests.{not-true, not-false, lt-ltb, le-ltb, eq-eqb, ne-eqb}
+use Rattle.text.specs.Field.{holds}
+use Rattle.text.proofs.fields.below_zero.Statement.{statement}
+use Rattle.text.proofs.fields.below_zero.Tie as tie
+
+less : (n : ℕ) → n < 2 ^ 63 → pos 0 -ℤ toZ w64 n ≡ negℤ (pos n)
+less n h = ap (λ (z : ℤ). pos 0 -ℤ z) (toZ-pos w64 h) ∙ +ℤ-idl (negℤ (pos n))
+
+fits-minus : (n : ℕ) → n < 2 ^ 63 → SFits w64 (negℤ (pos n))
+fits-minus zero h = record { sfits = h }
+fits-minus (suc n) h = record { sfits = omega arith }
+
+bad-requires : tie.Need-bad-requires
+bad-requires c κs = search needs
+
+returns : tie.Need-returns
+returns c =
+    let a = c .before .before .before .args in
+    c .bad .ensures ∙ sym (rw (not-true (a .d .formed) (c .before .if1 .taken)) refl)
+
+bad-requires-2 : tie.Need-bad-requires-2
+bad-requires-2 c κs = search needs
+
+returns-2 : tie.Need-returns-2
+returns-2 c =
+    let a = c .before .before .before .before .before .args in
+    c .bad2 .ensures ∙ sym (rw (not-false (a .d .formed) (c .before .before .before .if1 .left), eq-eqb (a .d .size) 0 (c .before .if2 .taken)) refl)
+
+bad-requires-3 : tie.Need-bad-requires-3
+bad-requires-3 c κs = search needs
+
+returns-3 : tie.Need-returns-3
+returns-3 c =
+    let e = c .before .before .before in
+    let a = e .before .before .before .before .args in
+    c .bad3 .ensures
+    ∙ sym (rw (not-false (a .d .formed) (e .before .before .if1 .left), ne-eqb (a .d .size) 0 (e .if2 .left), lt-ltb (a .down) (a .d .size) (c .before .if3 .taken)) refl)
+
+cast-t4 : tie.Need-cast-t4
+cast-t4 c = search needs
+
+sub-t5 : tie.Need-sub-t5
+sub-t5 c =
+    let n = c .before .before .before .before .before .before .before .args .d .size in
+    let l : n < 2 ^ 63 = omega arith in
+    subst (λ (z : ℤ). SFits w64 z) (sym (less n l)) (fits-minus n l)
+
+returns-4 : tie.Need-returns-4
+returns-4 c =
+    let e = c .before .before .before in
+    let a = e .before .before .before .before .args in
+    ap holds (toZ-ofZ (sub-t5 c) ∙ less (a .d .size) (omega arith))
+    ∙ sym (rw (not-false (a .d .formed) (e .before .before .if1 .left), ne-eqb (a .d .size) 0 (e .if2 .left), le-ltb (a .down) (a .d .size) (c .before .if3 .left)) refl)
+
+pub below-zero-spec : {M : Type 1} → statement M
+below-zero-spec =
+    tie.close
+    (tie.spec
+    bad-requires
+    returns
+    bad-requires-2
+    returns-2
+    bad-requires-3
+    returns-3
+    cast-t4
+    sub-t5
+    returns-4)

@@ -1,0 +1,99 @@
+-- `text::fields::field` meets its contract: the sign decides which end counts, and a number that is cut at 2^40 says of it what the whole one says.
+-- The ends of the four types are below 2^40.
+use mathlib.Core.Path.{_≡_, sym, ap, _∙_, subst}
+use mathlib.Core.Bool.{Bool, true, false, cond}
+use Prim.Native.Nat.{ℕ, _^_, _<_}
+use native.Mathlib.Omega.{arith}
+use lib.Dec.{eqb}
+use denote.Ref.{now}
+use borrow.Author.Needs.{needs}
+use Rattle.text.specs.declared.Digits.{Digits}
+use Rattle.text.specs.Field.{downOf, upOf, aboveZero, belowZero, fieldOf}
+use Rattle.text.proofs.Reading as R
+use Rattle.text.proofs.fields.field.Statement.{statement}
+use Rattle.text.proofs.fields.field.Tie as tie
+
+down-small : (k : ℕ) → downOf k < 2 ^ 40
+down-small k = go (eqb k 1) (eqb k 2)
+  where
+    go : (a b : Bool) → cond a 32768 (cond b 2147483648 0) < 2 ^ 40
+    go true b = omega arith
+    go false true = omega arith
+    go false false = omega arith
+
+up-small : (k : ℕ) → upOf k < 2 ^ 40
+up-small k = go (eqb k 0) (eqb k 1) (eqb k 2)
+  where
+    go : (a b c : Bool) → cond a 255 (cond b 32767 (cond c 2147483647 4294967295)) < 2 ^ 40
+    go true b c = omega arith
+    go false true c = omega arith
+    go false false true = omega arith
+    go false false false = omega arith
+
+bad-requires : tie.Need-bad-requires
+bad-requires c κs = search needs
+
+returns : tie.Need-returns
+unfolding fieldOf
+returns c =
+    let a = c .before .before .before .args in
+    c .bad .ensures ∙ R.no-bytes (now (a .s)) (downOf (a .kind)) (upOf (a .kind)) (c .before .if1 .taken)
+
+shared-slice-read-if2 : tie.Need-shared-slice-read-if2
+shared-slice-read-if2 c = search needs
+
+digits-from-requires : tie.Need-digits-from-requires
+digits-from-requires c κs = search needs
+
+down-of-requires : tie.Need-down-of-requires
+down-of-requires c κs = search needs
+
+below-zero-requires : tie.Need-below-zero-requires
+below-zero-requires c κs = subst (λ (n : ℕ). n < 2 ^ 40) (sym (c .down-of .ensures)) (down-small (c .before .before .before .before .before .before .args .kind))
+
+returns-2 : tie.Need-returns-2
+unfolding fieldOf
+returns-2 c =
+    let d = c .before in
+    let e = d .before .before in
+    let a = e .before .before .before .before .args in
+    c .below-zero .ensures
+    ∙ ap (λ (n : ℕ). belowZero n (d .before .digits-from .result)) (d .down-of .ensures)
+    ∙ ap (λ (m : Digits). belowZero (downOf (a .kind)) m) (d .before .digits-from .ensures)
+    ∙ R.with-minus (now (a .s)) (downOf (a .kind)) (upOf (a .kind)) (omega arith) (e .if2 .taken) (down-small (a .kind))
+
+digits-from-requires-2 : tie.Need-digits-from-requires-2
+digits-from-requires-2 c κs = search needs
+
+up-of-requires : tie.Need-up-of-requires
+up-of-requires c κs = search needs
+
+above-zero-requires : tie.Need-above-zero-requires
+above-zero-requires c κs = subst (λ (n : ℕ). n < 2 ^ 40) (sym (c .up-of .ensures)) (up-small (c .before .before .before .before .before .before .args .kind))
+
+returns-3 : tie.Need-returns-3
+unfolding fieldOf
+returns-3 c =
+    let d = c .before in
+    let e = d .before .before in
+    let a = e .before .before .before .before .args in
+    c .above-zero .ensures
+    ∙ ap (λ (n : ℕ). aboveZero n (d .before .digits-from2 .result)) (d .up-of .ensures)
+    ∙ ap (λ (m : Digits). aboveZero (upOf (a .kind)) m) (d .before .digits-from2 .ensures)
+    ∙ R.without-minus (now (a .s)) (downOf (a .kind)) (upOf (a .kind)) (omega arith) (e .if2 .left) (up-small (a .kind))
+
+pub field-spec : {M : Type 1} → statement M
+field-spec =
+    tie.close
+    (tie.spec
+    bad-requires
+    returns
+    shared-slice-read-if2
+    digits-from-requires
+    down-of-requires
+    below-zero-requires
+    returns-2
+    digits-from-requires-2
+    up-of-requires
+    above-zero-requires
+    returns-3)

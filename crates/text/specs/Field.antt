@@ -1,0 +1,56 @@
+-- A field as one of four types.
+-- (Document 01, 'The symbol program': 18, wrong form; 19, a value outside its type. 'The sheet' and 'A block' give the types.)
+use Prim.Native.Nat.{ℕ, _^_, min}
+use mathlib.Core.List.{List, [], _∷_}
+use mathlib.Core.Bool.{Bool, true, false, cond}
+use lib.Dec.{ltb, eqb}
+use lib.IntN.{ℤ, pos, negℤ}
+use Rattle.text.specs.declared.Digits.{Digits}
+use Rattle.text.specs.declared.Field.{Field}
+use Rattle.text.specs.Number.{Said, none, some, numeral}
+
+-- How far a type reaches below and above zero: 0 is u8, 1 i16, 2 i32, and every other u32.
+abbrev pub downOf : ℕ → ℕ
+downOf kind = cond (eqb kind 1) 32768 (cond (eqb kind 2) 2147483648 0)
+
+abbrev pub upOf : ℕ → ℕ
+upOf kind = cond (eqb kind 0) 255 (cond (eqb kind 1) 32767 (cond (eqb kind 2) 2147483647 4294967295))
+
+-- A field of wrong form, one outside its type, and a value.
+abbrev pub wrongForm : Field
+wrongForm = record { fault = 2; value = pos 0 }
+
+abbrev pub outside : Field
+outside = record { fault = 1; value = pos 0 }
+
+abbrev pub holds : ℤ → Field
+holds z = record { fault = 0; value = z }
+
+-- What digits say, up to `up`; and after a minus sign, down to `down` below zero, where 0 is of wrong form.
+abbrev pub plain : ℕ → Said → Field
+plain up none = wrongForm
+plain up (some n) = cond (ltb up n) outside (holds (pos n))
+
+abbrev pub negative : ℕ → Said → Field
+negative down none = wrongForm
+negative down (some n) = cond (eqb n 0) wrongForm (cond (ltb down n) outside (holds (negℤ (pos n))))
+
+-- A field with these ends, whatever its number of digits. '-' is 45.
+unfoldable pub fieldIn : ℕ → ℕ → List ℕ → Field
+fieldIn down up [] = wrongForm
+fieldIn down up (b ∷ t) = cond (eqb b 45) (negative down (numeral t)) (plain up (numeral (b ∷ t)))
+
+unfoldable pub fieldOf : ℕ → List ℕ → Field
+fieldOf kind l = fieldIn (downOf kind) (upOf kind) l
+
+-- ---- what the code keeps of a number while it reads: no more than 2^40, which is past the ends of every type
+
+abbrev pub held : Said → Digits
+held none = record { formed = false; size = 0 }
+held (some n) = record { formed = true; size = min n (2 ^ 40) }
+
+abbrev pub aboveZero : ℕ → Digits → Field
+aboveZero up d = cond (d .formed) (cond (ltb up (d .size)) outside (holds (pos (d .size)))) wrongForm
+
+abbrev pub belowZero : ℕ → Digits → Field
+belowZero down d = cond (d .formed) (cond (eqb (d .size) 0) wrongForm (cond (ltb down (d .size)) outside (holds (negℤ (pos (d .size)))))) wrongForm
