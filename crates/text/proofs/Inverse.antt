@@ -6,7 +6,7 @@ use Prim.Native.Nat.{ℕ, zero, suc, _+_, _-_, _*_, _/_, _%_, _≤_, _<_}
 use native.Mathlib.Decide.{decLe}
 use native.Mathlib.Omega.{arith}
 use lib.Dec.{ltb, eqb}
-use lib.IntN.{ℤ, pos, negsuc, negℤ}
+use lib.IntN.{ℤ, pos, negsuc}
 use borrow.Author.Tests.{le-ltb, ne-eqb, eqb-true, eqb-false, ltb-false}
 use Rattle.text.specs.declared.Field.{Field}
 use Rattle.text.specs.Number.{Said, none, some, isDigit, digitsAfter, nothingAfterZero, numeral, decimal, textOf}

@@ -1,22 +1,20 @@
 -- Where a byte first stands, how commas part a line, and what one field more adds to a line's answer and values.
 use mathlib.Core.Path.{_≡_, refl, sym, ap, _∙_}
-use mathlib.Core.List.{List, [], _∷_}
+use mathlib.Core.List.{List, [], _∷_, _++_}
 use mathlib.Core.Bool.{Bool, true, false, cond}
-use Prim.Native.Nat.{ℕ, zero, suc, _+_, _-_, _≤_, _<_, max}
+use Prim.Native.Nat.{ℕ, suc, _+_, _-_, _≤_, _<_, max}
 use native.Mathlib.Numerals.{add-one}
 use native.Mathlib.Decide.{decLe}
 use native.Mathlib.Omega.{arith}
 use lib.Dec.{ltb, eqb}
 use lib.IntN.{ℤ, pos, negℤ}
-use lib.ListN.{length, take, drop, getD, set, drop-of-length-le, length-drop}
+use lib.ListN.{length, take, drop, getD, set, drop-of-length-le, length-drop, length-append}
 use lib.Seq.{drop-cons, take-all, drop-drop, sets}
 use borrow.Author.Tests.{lt-ltb, le-ltb, eq-eqb, ne-eqb}
-use Rattle.text.specs.declared.Field.{Field}
-use Rattle.text.specs.declared.LineEnd.{LineEnd}
 use Rattle.text.specs.declared.LineEnd.the-variants.{After, TooLong, Open}
 use Rattle.text.specs.Number.{Said, none, some, numeral}
 use Rattle.text.specs.Field.{fieldIn, fieldOf, downOf, upOf, plain, negative, outside, holds, wrongForm}
-use Rattle.text.specs.Line.{before, lineEndOf, onto, parted, worst, numberOf, values, Reading}
+use Rattle.text.specs.Line.{before, lineEndOf, Settled, onto, parted, worst, numberOf, values, Reading}
 
 -- ---- the first x
 
@@ -56,6 +54,38 @@ module _ (s : List ℕ) (i : ℕ) where
   pub ends-open : length (before 10 s) ≡ i → i ≤ 1024 → length s ≤ i → Open ≡ lineEndOf s
   unfolding lineEndOf
   ends-open e h l = rw (e, le-ltb 1024 i h, le-ltb i (length s) l)
+
+-- With more bytes behind, an x that was found is still the first, and one that was not is no nearer.
+before-more : (x : ℕ) (a b : List ℕ) → length (before x a) < length a → before x (a ++ b) ≡ before x a
+unfolding before
+before-more x [] b h = absurd (omega arith)
+before-more x (c ∷ t) b h = go (eqb c x) h (λ (k : length (before x t) < length t). before-more x t b k)
+  where
+    go : (q : Bool) → length (cond q [] (c ∷ before x t)) < suc (length t) → (length (before x t) < length t → before x (t ++ b) ≡ before x t)
+        → cond q [] (c ∷ before x (t ++ b)) ≡ cond q [] (c ∷ before x t)
+    go true k f = refl
+    go false k f = ap (λ (l : List ℕ). c ∷ l) (f (omega arith))
+
+before-grows : (x : ℕ) (a b : List ℕ) → length (before x a) ≤ length (before x (a ++ b))
+unfolding before
+before-grows x [] b = omega arith
+before-grows x (c ∷ t) b = go (eqb c x) (before-grows x t b)
+  where
+    go : (q : Bool) → length (before x t) ≤ length (before x (t ++ b)) → length (cond q [] (c ∷ before x t)) ≤ length (cond q [] (c ∷ before x (t ++ b)))
+    go true k = omega arith
+    go false k = omega arith
+
+pub settled : Settled
+settled a b not-open = elim (decLe (suc 1024) (length (before 10 a))) [
+  | yes l ↦ sym (ends-too-long (a ++ b) (length (before 10 (a ++ b))) refl (omega (arith, before-grows 10 a b))) ∙ ends-too-long a (length (before 10 a)) refl l
+  | no s ↦ elim (decLe (length a) (length (before 10 a))) [
+    | yes l ↦ absurd (not-open (sym (ends-open a (length (before 10 a)) refl (omega arith) l)))
+    | no f ↦
+        let k : length (before 10 a) < length a = omega arith in
+        let e : length (before 10 (a ++ b)) ≡ length (before 10 a) = ap (λ (l : List ℕ). length l) (before-more 10 a b k) in
+        sym (ends-after (a ++ b) (length (before 10 a)) e (omega arith) (omega (arith, length-append a b))) ∙ ends-after a (length (before 10 a)) refl (omega arith) k
+  ]
+]
 
 -- ---- fields
 

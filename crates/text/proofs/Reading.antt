@@ -1,9 +1,9 @@
 -- How a number is read: from the left, digit by digit, and cut at 2^40, which no type's ends reach.
 use mathlib.Core.Path.{_≡_, refl, sym, ap, _∙_}
 use mathlib.Core.List.{List, [], _∷_}
-use mathlib.Core.Bool.{Bool, true, false, cond}
+use mathlib.Core.Bool.{cond}
 use mathlib.Core.Logic.{inl, inr}
-use Prim.Native.Nat.{ℕ, zero, suc, _+_, _-_, _*_, _^_, _≤_, _<_, min}
+use Prim.Native.Nat.{ℕ, suc, _+_, _-_, _*_, _^_, _≤_, _<_, min}
 use native.Mathlib.Numerals.{add-one}
 use native.Mathlib.Nat.{eq-zero-or-pos}
 use native.Mathlib.Decide.{decLe}
@@ -13,9 +13,8 @@ use lib.IntN.{pos, negℤ}
 use lib.ListN.{length, drop, getD, drop-of-length-le}
 use lib.Seq.{drop-cons}
 use borrow.Author.Tests.{lt-ltb, le-ltb, eq-eqb, ne-eqb}
-use Rattle.text.specs.declared.Digits.{Digits}
 use Rattle.text.specs.declared.Field.{Field}
-use Rattle.text.specs.Number.{Said, none, some, digitsAfter, nothingAfterZero, numeral}
+use Rattle.text.specs.Number.{Said, none, some, digitsAfter, numeral}
 use Rattle.text.specs.Field.{held, plain, negative, aboveZero, belowZero, wrongForm, outside, holds, fieldIn}
 
 -- ---- the first byte

@@ -2,7 +2,7 @@
 -- (Document 01, 'The symbol program': 18, wrong form; 19, a value outside its type. 'The sheet' and 'A block' give the types.)
 use Prim.Native.Nat.{ℕ, _^_, min}
 use mathlib.Core.List.{List, [], _∷_}
-use mathlib.Core.Bool.{Bool, true, false, cond}
+use mathlib.Core.Bool.{true, false, cond}
 use lib.Dec.{ltb, eqb}
 use lib.IntN.{ℤ, pos, negℤ}
 use Rattle.text.specs.declared.Digits.{Digits}

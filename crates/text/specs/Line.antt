@@ -1,14 +1,13 @@
 -- A line: where it ends, its fields, and what reading them answers and leaves.
 -- (Document 01, 'The symbol program': commas, no quoting; LF after at most 1,024 bytes; 18 before 19.)
-use Prim.Native.Nat.{ℕ, _+_, max}
+use Prim.Native.Nat.{ℕ, max}
 use mathlib.Core.Path.{_≡_}
-use mathlib.Core.List.{List, [], _∷_}
-use mathlib.Core.Bool.{Bool, cond}
+use mathlib.Core.List.{List, [], _∷_, _++_}
+use mathlib.Core.Bool.{cond}
 use lib.Dec.{ltb, eqb}
 use lib.IntN.{ℤ}
 use lib.ListN.{length}
 use lib.Seq.{sets}
-use Rattle.text.specs.declared.Field.{Field}
 use Rattle.text.specs.declared.LineEnd.{LineEnd}
 use Rattle.text.specs.declared.LineEnd.the-variants.{After, TooLong, Open}
 use Rattle.text.specs.Field.{fieldOf}
@@ -25,6 +24,10 @@ unfoldable pub lineEndOf : List ℕ → LineEnd
 lineEndOf l =
     let n : ℕ = length (before 10 l) in
     cond (ltb 1024 n) TooLong (cond (ltb n (length l)) (After n) Open)
+
+-- Where a line has ended, or is too long, more bytes behind change nothing: how the input is cut has no part in it.
+abbrev pub Settled : Type 0
+Settled = (a b : List ℕ) → (lineEndOf a ≡ Open → ⊥) → lineEndOf (a ++ b) ≡ lineEndOf a
 
 -- ---- its fields
 

@@ -1,8 +1,7 @@
 -- `symbols::input::to_front` is safe and ends: a byte is moved towards the front, from a place within the buffer.
 use mathlib.Core.Path.{_≡_}
 use Prim.Native.Nat.{_-_, _≤_}
-use native.Mathlib.Omega.{arith}
-use lib.ListN.{length, length-set}
+use lib.ListN.{length}
 use borrow.Author.Needs.{needs}
 use Rattle.symbols.proofs.input.to_front.Statement.{statement}
 use Rattle.symbols.proofs.input.to_front.Tie as tie

@@ -1,8 +1,7 @@
 -- `text::fields::above_zero` meets its contract: each answer is that of the tests which led to it.
 -- A number up to `up` is far below 2^63, so that its bits read the same as a signed number.
-use mathlib.Core.Path.{_≡_, refl, sym, ap, _∙_}
-use mathlib.Core.Bool.{Bool, cond}
-use Prim.Native.Nat.{ℕ, _^_, _<_}
+use mathlib.Core.Path.{refl, sym, ap, _∙_}
+use Prim.Native.Nat.{_^_, _<_}
 use native.Mathlib.Omega.{arith}
 use mir.Syntax.{w64}
 use mir.Facts.{toZ-pos}

@@ -1,12 +1,12 @@
 -- `text::fields::digits_from` meets its contract: what is left of the digits, after the number so far, still says what all of them say.
 -- The number is kept cut at 2^40, where cutting and one more digit may change places.
-use mathlib.Core.Path.{_≡_, refl, sym, ap, _∙_}
+use mathlib.Core.Path.{_≡_, sym, ap, _∙_}
 use mathlib.Core.Bool.{true}
 use Prim.Native.Nat.{ℕ, _+_, _-_, _*_, _^_, _≤_, min}
 use native.Mathlib.Omega.{arith}
 use denote.Ref.{now}
 use lib.ListN.{length, drop, getD}
-use Rattle.text.specs.Number.{Said, some, digitsAfter, numeral}
+use Rattle.text.specs.Number.{digitsAfter, numeral}
 use Rattle.text.specs.Field.{held}
 use Rattle.text.proofs.Reading as R
 use Rattle.text.proofs.fields.digits_from.Statement.{statement}

@@ -1,6 +1,6 @@
 -- `text::fields::field` meets its contract: the sign decides which end counts, and a number that is cut at 2^40 says of it what the whole one says.
 -- The ends of the four types are below 2^40.
-use mathlib.Core.Path.{_≡_, sym, ap, _∙_, subst}
+use mathlib.Core.Path.{sym, ap, _∙_, subst}
 use mathlib.Core.Bool.{Bool, true, false, cond}
 use Prim.Native.Nat.{ℕ, _^_, _<_}
 use native.Mathlib.Omega.{arith}

@@ -1,6 +1,6 @@
 -- `text::lines::put_value` meets its contract: a place that is there is set.
 -- A `set` past the end changes nothing, as the code does.
-use mathlib.Core.Path.{sym, ap}
+use mathlib.Core.Path.{sym}
 use borrow.Author.Needs.{needs}
 use lib.Seq.{set-out}
 use denote.Ref.{now}

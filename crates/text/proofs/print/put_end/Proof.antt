@@ -1,6 +1,6 @@
 -- `text::print::put_end` meets its contract: its parts are put one behind the other, and together they are the line.
 -- 70 bytes are room for them: four for the word, at most twenty for each number and a sign, and three for what follows these.
-use mathlib.Core.Path.{_≡_, sym, subst}
+use mathlib.Core.Path.{sym, subst}
 use mathlib.Core.List.{List}
 use Prim.Native.Nat.{ℕ, _+_, _≤_}
 use native.Mathlib.Omega.{arith}
@@ -11,7 +11,7 @@ use mir.Val.{toZ, ofZ}
 use mir.Facts.{toZ-ofZ}
 use denote.Ref.{now}
 use borrow.Author.Needs.{needs}
-use Rattle.text.specs.Print.{Put, roomed, endOf}
+use Rattle.text.specs.Print.{Put, endOf}
 use Rattle.text.proofs.Writing as W
 use Rattle.text.proofs.print.put_end.Statement.{statement}
 use Rattle.text.proofs.print.put_end.Tie as tie

@@ -1,13 +1,13 @@
 -- `text::print::put_refusal` meets its contract: its parts are put one behind the other, and together they are the line.
 -- 52 bytes are room for them: eight for the word, at most twenty for each number and two for what follows these.
-use mathlib.Core.Path.{_≡_, sym, subst}
+use mathlib.Core.Path.{sym, subst}
 use mathlib.Core.List.{List}
 use Prim.Native.Nat.{ℕ, _+_, _≤_}
 use native.Mathlib.Omega.{arith}
 use lib.ListN.{length}
 use denote.Ref.{now}
 use borrow.Author.Needs.{needs}
-use Rattle.text.specs.Print.{Put, roomed, refusedOf}
+use Rattle.text.specs.Print.{Put, refusedOf}
 use Rattle.text.proofs.Writing as W
 use Rattle.text.proofs.print.put_refusal.Statement.{statement}
 use Rattle.text.proofs.print.put_refusal.Tie as tie

@@ -4,7 +4,6 @@ use mathlib.Core.Path.{_≡_, refl, sym, ap, _∙_, subst}
 use mathlib.Core.List.{List, [], _∷_, _++_}
 use mathlib.Core.Bool.{cond}
 use Prim.Native.Nat.{ℕ, suc, _+_, _-_, _*_, _≤_, _<_}
-use native.Mathlib.Nat.{add-zero}
 use native.Mathlib.Numerals.{add-one}
 use native.Mathlib.Omega.{arith}
 use lib.Dec.{ltb}
@@ -16,7 +15,7 @@ use denote.Ref.{now}
 use borrow.Author.Needs.{needs}
 use Rattle.arith.proofs.Bits.{held}
 use Rattle.text.specs.Number.{textOf}
-use Rattle.text.specs.Print.{Put, roomed, rowOf}
+use Rattle.text.specs.Print.{Put, rowOf}
 use Rattle.text.proofs.Writing as W
 use Rattle.text.proofs.print.put_row.Statement.{statement}
 use Rattle.text.proofs.print.put_row.Tie as tie

@@ -5,7 +5,6 @@ use Prim.Native.Nat.{ℕ, suc, _+_, _-_, _*_, _/_, _^_, _≤_, _<_}
 use native.Mathlib.Nat.{pow-suc}
 use native.Mathlib.Numerals.{add-one}
 use native.Mathlib.Omega.{arith}
-use mir.Syntax.{w64}
 use Rattle.text.specs.Number.{decimal, lastDigits}
 use Rattle.text.proofs.Writing as W
 use Rattle.text.proofs.print.width.Statement.{statement}
