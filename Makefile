@@ -1,5 +1,6 @@
 # make run     the main job, on the stored input
 # make test    the gate: proofs, must-fail edits and programs, from nothing
+# make cases   runs the symbol program on 689 small inputs, refused and malformed ones among them
 # make oracle  compares this code with the Rust front end of isdb-rs
 # make bench   measures both in one run and prints how many times as fast this one is
 #
@@ -7,7 +8,7 @@
 RT ?= rt
 ISDB_RS ?= ../shared/docs/src
 
-.PHONY: run test oracle archive bench clean kit
+.PHONY: run test cases oracle archive bench clean kit
 
 run: kit
 	@echo "Proving and linking the symbol program, the replay programs and what they stand on (some minutes from nothing) .."
@@ -23,6 +24,11 @@ run: kit
 test: kit
 	@$(RT) fmt --check
 	@$(RT) ci
+
+cases: kit
+	@mkdir -p target
+	@$(RT) check symbols >target/cases.out 2>&1 || { tail -n 20 target/cases.out; exit 1; }
+	@sh tests/symbols.sh target/bin/symbols
 
 oracle: kit
 	@RT='$(RT)' ISDB_RS='$(ISDB_RS)' sh oracle/compare.sh
