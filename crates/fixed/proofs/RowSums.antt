@@ -1,20 +1,20 @@
 -- The sum of a row over the line, built up coefficient by coefficient. A sum of products is linear in each factor, so what the raising of the line's numbers, or of the coefficients, adds
 -- to it is a sum of its own; and each partial sum is bounded by the magnitudes so far.
-use Prim.Native.Nat.{ℕ, zero, suc, _+_, _*_, _≤_, _<_}
+use Prim.Native.Nat.{ℕ, zero, suc, _+_, _*_, _^_, _≤_, _<_}
 use mathlib.Core.Path.{_≡_, refl, sym, ap, _∙_}
 use mathlib.Core.List.{List}
-use native.Mathlib.Nat.{le-refl, mul-le-mul}
+use native.Mathlib.Nat.{mul-le-mul}
 use native.Mathlib.Numerals.{add-one}
 use native.Mathlib.Omega.{arith}
 use lib.ListN.{length, getD, take, drop, take-append-drop}
 use lib.IntN.{ℤ, pos, negsuc, natAbs, _+ℤ_, _-ℤ_, _*ℤ_, zero-*ℤ, *ℤ-comm, +ℤ-negℤ-cancel}
-use Rattle.arith.proofs.Magnitude.{abs-add, abs-mul}
+use Rattle.arith.proofs.Magnitude.{abs-add}
 use Rattle.arith.proofs.Order.{P, N, abs-pn, add-pn, minus-pn, eq-pn}
 use Rattle.arith.proofs.Products.{add-mul, mul-minus}
 use Rattle.params.specs.Judge.{magnitudes}
 use Rattle.params.proofs.Rows.{magnitudes-append, magnitudes-suc}
 use Rattle.fixed.specs.Filter.{sumTo}
-use Rattle.fixed.specs.Inside.{sumOver}
+use Rattle.fixed.specs.Inside.{sumOver, sumsOver}
 
 -- ---- sums
 
@@ -103,34 +103,7 @@ weighed-more row n z h w = record {
   small = omega (arith, w .small, mag-step row n h, abs-add z (coefficient row n));
 }
 
--- the sum of products with raised numbers
-pub record Summed (row : List ℤ) (kept : List ℕ) (n : ℕ) (z : ℤ) : Type 0 where
-  pub is : z ≡ sumTo (λ m. coefficient row m *ℤ kept-at kept m) n
-  pub small : natAbs z ≤ magnitudes (take n row) * 4294967296
-
-pub summed-none : (row : List ℤ) (kept : List ℕ) → Summed row kept 0 (pos 0)
-summed-none row kept = record { is = sym (sum-none (λ m. coefficient row m *ℤ kept-at kept m)); small = omega arith }
-
--- a product with a number of 32 bits
-product-small : (c : ℤ) (u : ℕ) → u ≤ 4294967296 → natAbs (c *ℤ pos u) ≤ natAbs c * 4294967296
-product-small c u h = rw (abs-mul c (pos u)) (mul-le-mul (le-refl (natAbs c)) h)
-
-pub summed-more : (row : List ℤ) (kept : List ℕ) (n : ℕ) (z : ℤ) → n < length row → getD kept n 0 < 4294967296 → Summed row kept n z
-    → Summed row kept (n + 1) (z +ℤ coefficient row n *ℤ kept-at kept n)
-summed-more row kept n z h u s = record {
-  is = ap (λ (y : ℤ). y +ℤ coefficient row n *ℤ kept-at kept n) (s .is) ∙ sym (sum-suc (λ m. coefficient row m *ℤ kept-at kept m) n);
-  small =
-      omega (arith, s .small, mag-step row n h, abs-add z (coefficient row n *ℤ kept-at kept n), product-small (coefficient row n) (getD kept n 0) (omega arith));
-}
-
--- the same, once what the line's raising adds is taken off
-pub summed-all : (row : List ℤ) (kept : List ℕ) (s c : ℤ) → Summed row kept (length row) s → Weighed row (length row) c → s -ℤ c *ℤ pos 2147483648 ≡ sumOver row kept
-unfolding sumOver
-summed-all row kept s c p w =
-    ap (λ (z : ℤ). z -ℤ c *ℤ pos 2147483648) (p .is) ∙ ap (λ (z : ℤ). sumTo (λ m. coefficient row m *ℤ kept-at kept m) (length row) -ℤ z *ℤ pos 2147483648) (w .is)
-    ∙ sym (lower-line (coefficient row) (kept-at kept) (pos 2147483648) (length row))
-
--- ---- the same with the coefficients raised too
+-- ---- sums with the coefficients raised
 
 raised-whole : (c : ℤ) → natAbs c ≤ 131071 → pos (natAbs (c +ℤ pos 131072)) ≡ c +ℤ pos 131072
 raised-whole c h = nonneg-is (c +ℤ pos 131072) (omega (arith, add-pn c (pos 131072), abs-pn c))
@@ -182,3 +155,52 @@ lifted-all row kept u v c l k w =
     ∙ sym (lower-row (coefficient row) (kept-at kept) (pos 131072) (length row)) in
     ap (λ (z : ℤ). z -ℤ c *ℤ pos 2147483648) products ∙ ap (λ (z : ℤ). sumTo (λ m. coefficient row m *ℤ kept-at kept m) (length row) -ℤ z *ℤ pos 2147483648) (w .is)
     ∙ sym (lower-line (coefficient row) (kept-at kept) (pos 2147483648) (length row))
+
+-- ---- both components at once
+
+-- a row's sums over the first n numbers of both components, and of its first n coefficients
+pub record Taken (row : List ℤ) (i q : List ℕ) (n u v : ℕ) (c : ℤ) : Type 0 where
+  pub in-i : Lifted row i n u
+  pub in-q : Lifted row q n v
+  pub weight : Weighed row n c
+
+-- the line's own sums over them
+pub record Level (i q : List ℕ) (n u v : ℕ) : Type 0 where
+  pub in-i : Lined i n u
+  pub in-q : Lined q n v
+
+pub taken-none : (row : List ℤ) (i q : List ℕ) → Taken row i q 0 0 0 (pos 0)
+taken-none row i q = record { in-i = lifted-none row i; in-q = lifted-none row q; weight = weighed-none row }
+
+pub level-none : (i q : List ℕ) → Level i q 0 0 0
+level-none i q = record { in-i = lined-none i; in-q = lined-none q }
+
+pub taken-more : (row : List ℤ) (i q : List ℕ) (n u v : ℕ) (c : ℤ) → n < length row → natAbs (coefficient row n) ≤ 131071 → getD i n 0 < 4294967296 → getD q n 0 < 4294967296 → Taken row i q n u v c
+    → Taken row i q (n + 1) (u + natAbs (coefficient row n +ℤ pos 131072) * getD i n 0) (v + natAbs (coefficient row n +ℤ pos 131072) * getD q n 0) (c +ℤ coefficient row n)
+taken-more row i q n u v c h each x y t = record {
+  in-i = lifted-more row i n u each x (t .in-i);
+  in-q = lifted-more row q n v each y (t .in-q);
+  weight = weighed-more row n c h (t .weight);
+}
+
+pub level-more : (i q : List ℕ) (n u v : ℕ) → getD i n 0 < 4294967296 → getD q n 0 < 4294967296 → Level i q n u v → Level i q (n + 1) (u + getD i n 0) (v + getD q n 0)
+level-more i q n u v x y l = record { in-i = lined-more i n u x (l .in-i); in-q = lined-more q n v y (l .in-q) }
+
+-- of a light row the coefficients are small, and so are 64 of these sums
+pub light-each : (row : List ℤ) (n : ℕ) → magnitudes row ≤ 131071 → n < length row → natAbs (coefficient row n) ≤ 131071
+light-each row n light h = omega (arith, mag-each row n h)
+
+pub taken-small : (row : List ℤ) (i q : List ℕ) (n u v : ℕ) (c : ℤ) → n ≤ 64 → magnitudes row ≤ 131071 → Taken row i q n u v c → (u ≤ 2 ^ 57) × ((v ≤ 2 ^ 57) × (natAbs c ≤ 131071))
+taken-small row i q n u v c few light t = (omega (arith, t .in-i .small), (omega (arith, t .in-q .small), omega (arith, t .weight .small, mag-most row n)))
+
+pub level-small : (i q : List ℕ) (n u v : ℕ) → n ≤ 64 → Level i q n u v → (u ≤ 2 ^ 38) × (v ≤ 2 ^ 38)
+level-small i q n u v few l = (omega (arith, l .in-i .small), omega (arith, l .in-q .small))
+
+-- what the raising adds is taken off
+pub taken-all : (row : List ℤ) (i q : List ℕ) (u v : ℕ) (c : ℤ) (a b : ℕ) → Taken row i q (length row) u v c → Level i q (length row) a b
+    → record { i = pos u -ℤ pos a *ℤ pos 131072 -ℤ c *ℤ pos 2147483648; q = pos v -ℤ pos b *ℤ pos 131072 -ℤ c *ℤ pos 2147483648 } ≡ sumsOver row i q
+unfolding sumsOver
+taken-all row i q u v c a b t l =
+    let x = lifted-all row i u a c (t .in-i) (l .in-i) (t .weight) in
+    let y = lifted-all row q v b c (t .in-q) (l .in-q) (t .weight) in
+    λ m. record { i = x m; q = y m }

@@ -3,9 +3,10 @@ use Prim.Native.Nat.{ℕ, _+_, _-_, _/_, min}
 use mathlib.Core.Path.{_≡_, sym, ap, _∙_}
 use mathlib.Core.List.{List, [], _∷_}
 use native.Mathlib.Omega.{arith}
-use lib.ListN.{length, take, drop}
-use lib.IntN.{ℤ}
+use lib.ListN.{length, getD, take, drop}
+use lib.IntN.{ℤ, pos}
 use borrow.Author.Needs.{needs}
+use Rattle.fixed.specs.declared.Sums.{Sums}
 use Rattle.fixed.specs.Inside.{sumsOver, Row, DetectorRow}
 use Rattle.fixed.proofs.Centre.{low, wide, part-row, part-sums}
 use Rattle.fixed.proofs.filter.filter.Statement.{statement}
@@ -65,13 +66,6 @@ part-detector-sums-start-3 c = search needs
 part-detector-sums-end-3 : tie.Need-part-detector-sums-end-3
 part-detector-sums-end-3 c = search needs
 
-detector-sums-requires : tie.Need-detector-sums-requires
-detector-sums-requires c κs =
-    let b = c .before .before .before in
-    let a = b .before .before .before in
-    let f = b .detector-of in
-    middle-row (a .args .h .now) (a .args .i .now) (a .args .q .now) (f .result .low) (f .result .high) (length (a .args .k .now)) (f .ensures .0) (f .ensures .1) (omega arith) (a .pre .0)
-
 mul-detector-sums-4 : tie.Need-mul-detector-sums-4
 mul-detector-sums-4 c = search needs
 
@@ -84,49 +78,35 @@ part-detector-sums-start-4 c = search needs
 part-detector-sums-end-4 : tie.Need-part-detector-sums-end-4
 part-detector-sums-end-4 c = search needs
 
-mul-detector-sums-5 : tie.Need-mul-detector-sums-5
-mul-detector-sums-5 c = search needs
-
-sub-detector-sums-5 : tie.Need-sub-detector-sums-5
-sub-detector-sums-5 c = search needs
-
-part-detector-sums-start-5 : tie.Need-part-detector-sums-start-5
-part-detector-sums-start-5 c = search needs
-
-part-detector-sums-end-5 : tie.Need-part-detector-sums-end-5
-part-detector-sums-end-5 c = search needs
-
-mul-detector-sums-6 : tie.Need-mul-detector-sums-6
-mul-detector-sums-6 c = search needs
-
-sub-detector-sums-6 : tie.Need-sub-detector-sums-6
-sub-detector-sums-6 c = search needs
-
-part-detector-sums-start-6 : tie.Need-part-detector-sums-start-6
-part-detector-sums-start-6 c = search needs
-
-part-detector-sums-end-6 : tie.Need-part-detector-sums-end-6
-part-detector-sums-end-6 c = search needs
-
-detector-sums-requires-2 : tie.Need-detector-sums-requires-2
-detector-sums-requires-2 c κs =
-    let b = c .before .before .before .before .before .before .before in
+detector-sums-requires : tie.Need-detector-sums-requires
+detector-sums-requires c κs =
+    let b = c .before .before .before .before in
     let a = b .before .before .before in
-    let f = b .detector-of in
-    middle-row (a .args .g .now) (a .args .i .now) (a .args .q .now) (f .result .low) (f .result .high) (length (a .args .k .now)) (f .ensures .0) (f .ensures .1) (omega arith) (a .pre .1 .0)
+    let f = b .detector-of in (
+      middle-row (a .args .h .now) (a .args .i .now) (a .args .q .now) (f .result .low) (f .result .high) (length (a .args .k .now)) (f .ensures .0) (f .ensures .1) (omega arith) (a .pre .0),
+      middle-row (a .args .g .now) (a .args .i .now) (a .args .q .now) (f .result .low) (f .result .high) (length (a .args .k .now)) (f .ensures .0) (f .ensures .1) (omega arith) (a .pre .1 .0),
+    )
+
+array-copy-out-a : tie.Need-array-copy-out-a
+array-copy-out-a c = search needs
+
+array-copy-out-b : tie.Need-array-copy-out-b
+array-copy-out-b c = search needs
 
 output-sums-requires : tie.Need-output-sums-requires
 output-sums-requires c κs = search needs
 
 returns : tie.Need-returns
 returns c =
-    let b = c .before .before .before .before .before .before .before .before .before in
+    let d = c .before .before .before in
+    let b = d .before .before .before .before .before in
     let a = b .before .before .before in
     let f = b .detector-of in
     let h = middle-sums (a .args .h .now) (a .args .i .now) (a .args .q .now) (f .result .low) (f .result .high) (length (a .args .k .now)) (f .ensures .0) (f .ensures .1) (omega arith) (a .pre .0) in
     let g = middle-sums (a .args .g .now) (a .args .i .now) (a .args .q .now) (f .result .low) (f .result .high) (length (a .args .k .now)) (f .ensures .0) (f .ensures .1) (omega arith) (a .pre .1 .0) in
-    let x : c .before .before .before .before .before .detector-sums .result ≡ sumsOver (a .args .h .now) (a .args .i .now) (a .args .q .now) = c .before .before .before .before .before .detector-sums .ensures ∙ h in
-    let y : c .before .detector-sums2 .result ≡ sumsOver (a .args .g .now) (a .args .i .now) (a .args .q .now) = c .before .detector-sums2 .ensures ∙ g in
+    let at : (n : ℕ) → Sums = λ n. getD (d .detector-sums .result) n (record { i = pos 0; q = pos 0 }) in
+    let x : at 0 ≡ sumsOver (a .args .h .now) (a .args .i .now) (a .args .q .now) = ap (λ (l : List Sums). getD l 0 (record { i = pos 0; q = pos 0 })) (d .detector-sums .ensures) ∙ h in
+    let y : at 1 ≡ sumsOver (a .args .g .now) (a .args .i .now) (a .args .q .now) = ap (λ (l : List Sums). getD l 1 (record { i = pos 0; q = pos 0 })) (d .detector-sums .ensures) ∙ g in
     let z : c .output-sums .result ≡ sumsOver (a .args .k .now) (a .args .i .now) (a .args .q .now) = c .output-sums .ensures in
     λ t. x t ∷ y t ∷ z t ∷ []
 
@@ -147,19 +127,12 @@ filter-spec =
     sub-detector-sums-3
     part-detector-sums-start-3
     part-detector-sums-end-3
-    detector-sums-requires
     mul-detector-sums-4
     sub-detector-sums-4
     part-detector-sums-start-4
     part-detector-sums-end-4
-    mul-detector-sums-5
-    sub-detector-sums-5
-    part-detector-sums-start-5
-    part-detector-sums-end-5
-    mul-detector-sums-6
-    sub-detector-sums-6
-    part-detector-sums-start-6
-    part-detector-sums-end-6
-    detector-sums-requires-2
+    detector-sums-requires
+    array-copy-out-a
+    array-copy-out-b
     output-sums-requires
     returns)

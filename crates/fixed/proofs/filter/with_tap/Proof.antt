@@ -1,4 +1,4 @@
--- `fixed::filter::with_unsigned` meets its contract: a coefficient of 18 bits, raised, is a number from 1 to 262143, and its product with one of 32 bits stays below 2^51.
+-- `fixed::filter::with_tap` meets its contract: a coefficient of 18 bits, raised, is a number from 1 to 262143, and its product with one of 32 bits stays below 2^51.
 use Prim.Native.Nat.{ℕ, _+_, _*_, _^_, _≤_}
 use mathlib.Core.Path.{_≡_, ap}
 use native.Mathlib.Nat.{mul-le-mul}
@@ -13,8 +13,8 @@ use borrow.Author.Needs.{needs}
 use Rattle.arith.proofs.Magnitude.{abs-add}
 use Rattle.arith.proofs.Order.{abs-pn, add-pn, unsign}
 use Rattle.arith.proofs.Bits.{sfit, back}
-use Rattle.fixed.proofs.filter.with_unsigned.Statement.{statement}
-use Rattle.fixed.proofs.filter.with_unsigned.Tie as tie
+use Rattle.fixed.proofs.filter.with_tap.Statement.{statement}
+use Rattle.fixed.proofs.filter.with_tap.Tie as tie
 
 -- ---- the coefficient, raised
 
@@ -72,29 +72,23 @@ mul-t12 : tie.Need-mul-t12
 mul-t12 c = let a = c .before in product-fits (a .args .c) (a .pre .0 .0) (a .args .y) (a .fits .y)
 
 add-t13 : tie.Need-add-t13
-add-t13 c = let a = c .before .before in sum-fits (a .args .c) (a .pre .0 .0) (a .args .s .q) (a .args .y) (a .pre .1 .1 .0) (a .fits .y)
-
-add-t15 : tie.Need-add-t15
-add-t15 c = search needs
-
-add-t17 : tie.Need-add-t17
-add-t17 c = search needs
+add-t13 c = let a = c .before .before in sum-fits (a .args .c) (a .pre .0 .0) (a .args .s .q) (a .args .y) (a .pre .1 .1) (a .fits .y)
 
 add-t6 : tie.Need-add-t6
 add-t6 c =
-    let a = c .before .before .before .before .before .before in
+    let a = c .before .before .before .before in
     rw (coefficients-is (a .args .s .coefficients) (a .args .c) (a .pre .0 .1) (a .pre .0 .0)) (coefficients-fit (a .args .s .coefficients) (a .args .c) (a .pre .0 .1) (a .pre .0 .0))
 
 returns : tie.Need-returns
 returns c =
-    let a = c .before .before .before .before .before .before in
+    let a = c .before .before .before .before in
     let s = a .args .s in
     let k = raised-abs (a .args .c) (a .pre .0 .0) in
     let w : toZ w32 (ofZ w32 (toZ w32 (ofZ w32 (s .coefficients)) +ℤ toZ w32 (ofZ w32 (a .args .c)))) ≡ s .coefficients +ℤ a .args .c =
     rw (coefficients-is (s .coefficients) (a .args .c) (a .pre .0 .1) (a .pre .0 .0)) (toZ-ofZ (coefficients-fit (s .coefficients) (a .args .c) (a .pre .0 .1) (a .pre .0 .0))) in
-    λ t. record { i = s .i + k t * a .args .x; q = s .q + k t * a .args .y; «line_i» = s .«line_i» + a .args .x; «line_q» = s .«line_q» + a .args .y; coefficients = w t }
+    λ t. record { i = s .i + k t * a .args .x; q = s .q + k t * a .args .y; coefficients = w t }
 
-pub with-unsigned-spec : {M : Type 1} → statement M
-with-unsigned-spec =
+pub with-tap-spec : {M : Type 1} → statement M
+with-tap-spec =
     tie.close
-    (tie.spec add-k cast-k cast-k-2 mul-t9 add-t10 mul-t12 add-t13 add-t15 add-t17 add-t6 returns)
+    (tie.spec add-k cast-k cast-k-2 mul-t9 add-t10 mul-t12 add-t13 add-t6 returns)
