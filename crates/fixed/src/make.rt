@@ -6,6 +6,8 @@ use crate::Symbol;
 use params::Params;
 ghost use mathlib.Core.Path.{_≡_};
 ghost use Prim.Native.Nat.{_/_, _≤_};
+ghost use lib.IntN.{pos, _*ℤ_};
+ghost use Rattle.arith.specs.Arith.{roundShift, sat16Z};
 ghost use Rattle.fixed.specs.Symbol.{outputOf, amplified, quantised, timingError, gainError, symbolFrom};
 
 // A filter's sums as an output.
@@ -18,13 +20,20 @@ fn output_of(s: Sums) -> Output
     }
 }
 
+// A component times the gain. The product is far from the ends of 64 bits, so half of what is shifted out is added to it first.
+fn times(gain: u16, x: i16) -> i16
+    ensures { λ r. ⌜ r ≡ sat16Z (roundShift (x *ℤ pos gain) 10) ⌝ }
+{
+    arith::sat16(((x as i64) * (gain as i64) + 512) >> 10)
+}
+
 // An output times the gain.
 fn amplify(gain: u16, x: Output) -> Output
     ensures { λ r. ⌜ r ≡ amplified gain x ⌝ }
 {
     Output {
-        i: arith::sat16(arith::round_shift((x.i as i64) * (gain as i64), 10)),
-        q: arith::sat16(arith::round_shift((x.q as i64) * (gain as i64), 10)),
+        i: times(gain, x.i),
+        q: times(gain, x.q),
     }
 }
 
