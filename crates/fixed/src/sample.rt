@@ -75,6 +75,17 @@ fn symbol_at(
     make::make(p, r, w.samples, phase as u8, s)
 }
 
+// A position in the queue, which is a ring of 24.
+fn in_queue(at: usize) -> usize
+    requires { ⌜ at < 48 ⌝ }
+    ensures { λ r. ⌜ r ≡ at % 24 ⌝ }
+{
+    if at < 24 {
+        return at;
+    }
+    at - 24
+}
+
 // A symbol's errors join the queue behind the newest, which is where the oldest stood if 24 wait.
 fn queue(e: &mut [i32], err: &mut [i32], w: Position, a: i32, b: i32)
     requires { ⌜ (length (now e) ≡ 24) × (length (now err) ≡ 24) ⌝ }
@@ -82,7 +93,7 @@ fn queue(e: &mut [i32], err: &mut [i32], w: Position, a: i32, b: i32)
     ensures { λ _. ⌜ now (e .exit) ≡ set (now (e .entry)) ((w .oldest + w .waiting) % 24) a ⌝ }
     ensures { λ _. ⌜ now (err .exit) ≡ set (now (err .entry)) ((w .oldest + w .waiting) % 24) b ⌝ }
 {
-    let at = (w.oldest + w.waiting) % 24;
+    let at = in_queue(w.oldest + w.waiting);
     e[at] = a;
     err[at] = b;
 }
@@ -136,7 +147,7 @@ fn after_symbol(w: Position) -> Position
     if w.waiting == 24 {
         return Position {
             head: w.head,
-            oldest: (w.oldest + 1) % 24,
+            oldest: in_queue(w.oldest + 1),
             waiting: 24,
             samples: w.samples + 1,
         };
