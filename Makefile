@@ -1,14 +1,18 @@
-# make run     the main job, on the stored input
-# make test    the gate: proofs, must-fail edits and programs, from nothing
-# make cases   runs the symbol program on 689 small inputs, refused and malformed ones among them
-# make oracle  compares this code with the Rust front end of isdb-rs
-# make bench   measures both in one run and prints how many times as fast this one is
+# make run       the main job, on the stored input
+# make test      the gate: proofs, must-fail edits and programs, from nothing
+# make cases     runs the symbol program on 689 small inputs, refused and malformed ones among them
+# make oracle    compares this code with the Rust front end of isdb-rs
+# make bench     measures both in one run and prints how many times as fast this one is
+# make archive   writes target/staticlib/libarchive.a, for C and Rust to link
+# make examples  runs an example in C and one in Rust on a recording, and compares their lists with the stored one
+# make bindings  tests the C header and the Rust bindings
 #
-# Needed: the Rattle kit (its command rt) and a POSIX shell; for `make oracle` and `make bench` cargo, and the sources of isdb-rs at ISDB_RS.
+# Needed: the Rattle kit (its command rt) and a POSIX shell; for `make oracle` and `make bench` cargo, and the sources of isdb-rs at ISDB_RS; for `make examples`
+# and `make bindings` a C compiler and cargo.
 RT ?= rt
 ISDB_RS ?= ../shared/docs/src
 
-.PHONY: run test cases oracle archive bench clean kit
+.PHONY: run test cases oracle archive bench examples bindings clean kit
 
 run: kit
 	@echo "Proving and linking the symbol program, the replay programs and what they stand on (some minutes from nothing) .."
@@ -41,8 +45,24 @@ archive: kit
 bench: archive
 	@cd bench && ISDB_RS='$(ISDB_RS)' cargo run --offline --quiet --release
 
+examples: archive
+	@CC='$(CC)' sh examples/compare.sh
+
+bindings: archive
+	@command -v $(CC) >/dev/null || { echo "$(CC), a C compiler, is not here: the header was not tested"; exit 1; }
+	@command -v cargo >/dev/null || { echo "cargo is not here: the Rust bindings were not tested"; exit 1; }
+	@echo "The archive's calls through include/huntelm.h, from C:"
+	@$(CC) -std=c99 -O2 -Wall -Wextra -Wpedantic -Werror -Iinclude -o target/header tests/header.c target/staticlib/libarchive.a
+	@target/header
+	@if command -v $(CXX) >/dev/null; then \
+		echo "The same from C++:"; \
+		$(CXX) -x c++ -std=c++11 -O2 -Wall -Wextra -Wpedantic -Werror -Iinclude -o target/header tests/header.c -x none target/staticlib/libarchive.a && target/header; \
+	else echo "$(CXX), a C++ compiler, is not here: from C++ nothing was tested"; fi
+	@echo "The tests of bindings/rust:"
+	@cd bindings/rust && HUNTELM_ARCHIVE='$(CURDIR)/target/staticlib' cargo test --offline --quiet
+
 clean:
-	rm -rf target oracle/target bench/target
+	rm -rf target oracle/target bench/target bindings/rust/target
 
 kit:
 	@command -v $(RT) >/dev/null || { echo "rt, the command of the Rattle kit, is not on the PATH. Install the kit, or say where it is: make RT=/path/to/rt"; exit 1; }

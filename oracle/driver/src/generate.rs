@@ -61,6 +61,7 @@ pub fn recording(kind: &str, seed: u64, pairs: u64, output: &mut impl Write) -> 
     let (sheet, mut samples) = match kind {
         "designed" => designed_with_signal(&mut r),
         "extreme" => (extreme(&mut r), Samples::noise()),
+        "isdb-s" => isdb_s(),
         _ => return Err(usage(&format!("{kind} is no kind of recording"))),
     };
     writeln!(output, "{}", joined(&sheet.fields()))?;
@@ -74,6 +75,31 @@ pub fn recording(kind: &str, seed: u64, pairs: u64, output: &mut impl Write) -> 
         writeln!(output, "{i},{q}")?;
     }
     Ok(())
+}
+
+/// An ISDB-S carrier as a receiver of 12 bits records it, at half its range, off its frequency and its symbols 60 parts in a
+/// million slow. The design removes the first, and the loop has to find the second; it is wide, since recordings may be short.
+fn isdb_s() -> (Sheet, Samples) {
+    let d = Design {
+        carrier_offset: 312.5e3,
+        taps: 16,
+        loop_bandwidth: 5e-4,
+        bits: 6,
+        agc_rms: 0.125,
+        ..Design::new(40e6, 28.86e6, 0.35)
+    };
+    let p = Params::design(&d).expect("a design within all bounds");
+    let samples = Samples::Signal {
+        sps: d.sps() * (1.0 + 60e-6),
+        roll_off: d.roll_off,
+        turn: d.carrier_offset / d.sample_rate * TAU,
+        amplitude: 1000.0,
+        noise: 120.0,
+        first: -2 * SPAN,
+        symbols: Vec::new(),
+        n: 0,
+    };
+    (Sheet::designed(&p), samples)
 }
 
 pub fn designs(seed: u64, count: u64, output: &mut impl Write) -> io::Result<()> {

@@ -40,7 +40,7 @@ oracle: asks the Rust front end of isdb-rs
   oracle recording KIND SEED PAIRS    an input of the symbol program
   oracle designs SEED COUNT           designs for `design`
 
-KIND is designed, extreme, small, refused or mixed for sheets, and designed or extreme for a recording.
+KIND is designed, extreme, small, refused or mixed for sheets, and designed, extreme or isdb-s for a recording.
 ";
 
 fn main() -> ExitCode {

@@ -1,0 +1,319 @@
+use crate::archive::{SHEET, STATE, STATE_SAMPLES, STATE_T, SYMBOL};
+use crate::{Params, Refusal};
+
+/// Pairs that go to the archive at once. How samples are cut changes no symbol; this bounds the memory for a long block.
+const PAIRS: usize = 4096;
+
+/// A symbol, and what it was made of. A pair is I, then Q.
+#[derive(Debug, Clone, Copy, PartialEq, Eq)]
+pub struct Symbol {
+    /// The sample on which it fell, counted from 0 at the start.
+    pub sample: u64,
+    /// In which sixty-fourth of it: the row of the banks.
+    pub phase: u8,
+    /// What bank h gives.
+    pub y: [i16; 2],
+    /// What bank g gives.
+    pub dy: [i16; 2],
+    /// What bank k gives.
+    pub yk: [i16; 2],
+    /// The gain in force, 1024 for a gain of 1.
+    pub gain: u16,
+    /// The period in force, 2^24 to the sample.
+    pub period: u32,
+    /// `y` times the gain.
+    pub z: [i16; 2],
+    /// `dy` times the gain.
+    pub dz: [i16; 2],
+    /// `yk` times the gain.
+    pub zk: [i16; 2],
+    /// The output, [`Params::bits`] wide.
+    pub q: [i8; 2],
+    /// Its timing error, which acts 24 symbols later.
+    pub e: i32,
+    /// Its gain error, likewise.
+    pub err: i32,
+}
+
+impl Symbol {
+    /// Its 20 numbers in the order of the fields above, as a line of a symbol list has them.
+    pub fn places(&self) -> [i64; SYMBOL] {
+        let [y, dy, yk, z, dz, zk] =
+            [self.y, self.dy, self.yk, self.z, self.dz, self.zk].map(|pair| pair.map(i64::from));
+        let q = self.q.map(i64::from);
+        [
+            // A count of samples is below 2^63.
+            self.sample as i64,
+            self.phase.into(),
+            y[0],
+            y[1],
+            dy[0],
+            dy[1],
+            yk[0],
+            yk[1],
+            self.gain.into(),
+            self.period.into(),
+            z[0],
+            z[1],
+            dz[0],
+            dz[1],
+            zk[0],
+            zk[1],
+            q[0],
+            q[1],
+            self.e.into(),
+            self.err.into(),
+        ]
+    }
+
+    /// The symbol that the archive wrote. Each number is one of its field's type: they were clamped or reduced to it.
+    fn of(places: &[i64; SYMBOL]) -> Self {
+        let pair = |n: usize| [places[n] as i16, places[n + 1] as i16];
+        Self {
+            sample: places[0] as u64,
+            phase: places[1] as u8,
+            y: pair(2),
+            dy: pair(4),
+            yk: pair(6),
+            gain: places[8] as u16,
+            period: places[9] as u32,
+            z: pair(10),
+            dz: pair(12),
+            zk: pair(14),
+            q: [places[16] as i8, places[17] as i8],
+            e: places[18] as i32,
+            err: places[19] as i32,
+        }
+    }
+}
+
+/// The front end: takes samples and gives symbols, from a fresh start on.
+#[derive(Debug, Clone)]
+pub struct Frontend {
+    params: Params,
+    sheet: [i64; SHEET],
+    state: [i64; STATE],
+    /// Room for the symbols of a block, kept from call to call.
+    out: Vec<i64>,
+}
+
+impl Frontend {
+    /// A front end at its start.
+    ///
+    /// # Errors
+    ///
+    /// 1 to 8, as [`Params::validate`] has them.
+    pub fn new(params: Params) -> Result<Self, Refusal> {
+        let sheet = params.places();
+        let mut state = [0; STATE];
+        params.sheet(&sheet).start(&mut state)?;
+        Ok(Self {
+            params,
+            sheet,
+            state,
+            out: Vec::new(),
+        })
+    }
+
+    /// Takes a sample, I then Q, and gives the symbol that falls on it, if one does.
+    ///
+    /// Every call judges the sheet again, so [`process`](Self::process) costs much less a sample.
+    ///
+    /// # Errors
+    ///
+    /// 12 where it would be the 2^63-th sample; nothing is changed then.
+    pub fn push(&mut self, sample: [i16; 2]) -> Result<Option<Symbol>, Refusal> {
+        let mut place = [0; SYMBOL];
+        let sheet = self.params.sheet(&self.sheet);
+        let symbols = sheet.block(&mut self.state, &sample, &mut place)?;
+        Ok((symbols == 1).then(|| Symbol::of(&place)))
+    }
+
+    /// Takes a block of samples, appends its symbols to `out`, and says how many these are.
+    ///
+    /// How samples are cut into blocks changes no symbol. Room for a block is kept from call to call, so a caller that clears `out` in between has
+    /// nothing allocated once the largest block has passed.
+    ///
+    /// # Errors
+    ///
+    /// 12 where there would be more than 2^63 − 1 samples in all; the front end and `out` are then as they were.
+    pub fn process(
+        &mut self,
+        samples: &[[i16; 2]],
+        out: &mut Vec<Symbol>,
+    ) -> Result<usize, Refusal> {
+        let (state, before) = (self.state, out.len());
+        for part in samples.chunks(PAIRS) {
+            if let Err(refusal) = self.process_part(part, out) {
+                self.state = state;
+                out.truncate(before);
+                return Err(refusal);
+            }
+        }
+        Ok(out.len() - before)
+    }
+
+    fn process_part(&mut self, samples: &[[i16; 2]], out: &mut Vec<Symbol>) -> Result<(), Refusal> {
+        let room = SYMBOL * samples.len();
+        if self.out.len() < room {
+            self.out.resize(room, 0);
+        }
+        let sheet = self.params.sheet(&self.sheet);
+        let symbols = sheet.block(&mut self.state, samples.as_flattened(), &mut self.out)?;
+        let (places, _) = self.out[..SYMBOL * symbols].as_chunks();
+        out.extend(places.iter().map(Symbol::of));
+        Ok(())
+    }
+
+    /// The parameters.
+    pub fn params(&self) -> &Params {
+        &self.params
+    }
+
+    /// The period, 2^24 to the sample.
+    pub fn period(&self) -> u32 {
+        self.read()[0] as u32
+    }
+
+    /// The gain, 1024 for a gain of 1.
+    pub fn gain(&self) -> u16 {
+        self.read()[1] as u16
+    }
+
+    /// Symbols so far.
+    pub fn symbols(&self) -> u64 {
+        self.read()[2] as u64
+    }
+
+    /// Samples so far.
+    pub fn samples(&self) -> u64 {
+        self.state[STATE_SAMPLES] as u64
+    }
+
+    /// How far behind the next sample the next symbol lies, 2^24 to the sample. It falls on that sample where this is less than 2^24.
+    pub fn time(&self) -> u32 {
+        self.state[STATE_T] as u32
+    }
+
+    fn read(&self) -> [i64; 3] {
+        self.params
+            .sheet(&self.sheet)
+            .read(&self.state)
+            .expect("a state that starting or a block has written is never refused")
+    }
+}
+
+#[cfg(test)]
+mod tests {
+    use super::*;
+
+    fn params() -> Params {
+        let h = [16384, 0, 0, 0].repeat(64);
+        let fields = [
+            4, 0, 33554432, 32883343, 34225520, 8, 0, 0, 0, 0, 335544, 262144, 16384, 4, 8, 6, 12,
+        ];
+        Params::from_places(&fields, h.clone(), vec![0; 256], h).unwrap()
+    }
+
+    /// A front end next to the last sample that can be counted.
+    fn late(left: i64) -> Frontend {
+        let mut front = Frontend::new(params()).unwrap();
+        front.state[STATE_SAMPLES] = i64::MAX - left;
+        front
+    }
+
+    #[test]
+    fn a_sample_too_many_is_refused() {
+        let mut front = late(1);
+        assert!(front.push([5, 6]).unwrap().is_some());
+        let state = front.state;
+        assert_eq!(front.push([5, 6]), Err(Refusal::TooManySamples));
+        assert_eq!(front.state, state);
+    }
+
+    #[test]
+    fn a_refused_block_changes_nothing() {
+        let samples = vec![[100, -100]; 3 * PAIRS];
+        let mut symbols = Vec::new();
+        let mut front = Frontend::new(params()).unwrap();
+        front.process(&samples[..9], &mut symbols).unwrap();
+        let kept = symbols.clone();
+        for left in [0, 1, PAIRS, 2 * PAIRS + 1, 3 * PAIRS - 1] {
+            let mut front = late(left as i64);
+            let state = front.state;
+            assert_eq!(
+                front.process(&samples, &mut symbols),
+                Err(Refusal::TooManySamples)
+            );
+            assert_eq!((front.state, &symbols), (state, &kept));
+        }
+        let mut front = late(3 * PAIRS as i64);
+        let count = front.process(&samples, &mut symbols).unwrap();
+        assert_eq!((count, front.samples()), (3 * PAIRS / 2, i64::MAX as u64));
+        assert_eq!(front.process(&[], &mut symbols), Ok(0));
+    }
+
+    /// A block that the archive itself refuses leaves the places that were lent to it alone.
+    #[test]
+    fn a_refused_call_touches_nothing() {
+        let p = params();
+        let places = p.places();
+        let sheet = p.sheet(&places);
+        let mut fresh = [7; STATE];
+        sheet.start(&mut fresh).unwrap();
+        for (length, values, places, refusal) in [
+            (STATE - 1, 2, 20, Refusal::State),
+            (STATE, 3, 60, Refusal::OddInput),
+            (STATE, 4, 39, Refusal::ShortOutput),
+        ] {
+            let mut state = fresh;
+            let mut out = vec![-3; places];
+            assert_eq!(
+                sheet.block(&mut state[..length], &vec![9; values], &mut out),
+                Err(refusal)
+            );
+            assert_eq!((state, out), (fresh, vec![-3; places]));
+        }
+    }
+
+    /// 18 and 19 are this crate's own tests where places become fields; they have to be the archive's.
+    #[test]
+    fn places_are_refused_as_the_archive_refuses_them() {
+        let p = params();
+        let good = p.places();
+        let refused = |places: &[i64]| {
+            let here = Params::from_places(places, p.h.clone(), p.g.clone(), p.k.clone()).err();
+            let there = p.sheet(places).judge().err();
+            assert_eq!(here, there.filter(|r| r.number() >= 18), "{places:?}");
+            here
+        };
+        assert_eq!(refused(&good), None);
+        for length in [0, 1, 16] {
+            assert_eq!(refused(&good[..length]), Some(Refusal::PlaceCount));
+        }
+        assert_eq!(refused(&[4; 18]), Some(Refusal::PlaceCount));
+        let ends = [
+            0,
+            u8::MAX.into(),
+            u32::MAX.into(),
+            i16::MIN.into(),
+            i16::MAX.into(),
+            i32::MIN.into(),
+            i32::MAX.into(),
+            i64::MIN,
+            i64::MAX,
+        ];
+        let mut seen = [0; 2];
+        for place in 0..SHEET {
+            for number in ends
+                .iter()
+                .flat_map(|n: &i64| [n.saturating_sub(1), *n, n.saturating_add(1)])
+            {
+                let mut places = good;
+                places[place] = number;
+                seen[usize::from(refused(&places).is_some())] += 1;
+            }
+        }
+        assert!(seen[0] > 100 && seen[1] > 100, "{seen:?}");
+    }
+}

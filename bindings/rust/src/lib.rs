@@ -1,0 +1,54 @@
+//! Huntelm: a receiver front end for satellite carriers. Samples go in, I and Q as 16-bit integers, and symbols come out: on which sample each fell, in
+//! which sixty-fourth of it, with what period.
+//!
+//! The work is done by an archive of proved code, `libarchive.a`, which `make archive` writes at the top of the repository; this crate lends it slices.
+//! Where the archive stands elsewhere, the environment variable `HUNTELM_ARCHIVE` names its folder, by its whole path, when the crate is built. It links on
+//! x86-64 Linux.
+//!
+//! The names are those of isdb-rs's front end. What differs: a bank is one vector, row by row, and the taps are a field; whatever can be
+//! refused answers a [`Refusal`]; [`Params::design`] is given banks and gains.
+//!
+//! ```
+//! use huntelm::{Frontend, Params};
+//!
+//! let h = [16384, 0, 0, 0].repeat(64);
+//! let params = Params {
+//!     taps: 4,
+//!     nco_step: 0,
+//!     period_nominal: 33554432,
+//!     period_min: 32883343,
+//!     period_max: 34225520,
+//!     ted_shift: 8,
+//!     kp: 0,
+//!     kp_shift: 0,
+//!     ki: 0,
+//!     ki_shift: 0,
+//!     integrator_max: 335544,
+//!     agc_init: 262144,
+//!     agc_target: 16384,
+//!     agc_shift: 4,
+//!     bits: 8,
+//!     q_shift: 6,
+//!     block_log2: 12,
+//!     k: h.clone(),
+//!     g: vec![0; 64 * 4],
+//!     h,
+//! };
+//! let mut front = Frontend::new(params)?;
+//! let mut symbols = Vec::new();
+//! front.process(&[[1000, -1000], [0, 0], [-1000, 1000]], &mut symbols)?;
+//! assert_eq!(symbols.len(), 2);
+//! assert_eq!((symbols[1].sample, symbols[1].phase, symbols[1].q), (2, 0, [-16, 16]));
+//! # Ok::<(), huntelm::Refusal>(())
+//! ```
+
+mod archive;
+mod frontend;
+mod input;
+mod params;
+mod refusal;
+
+pub use frontend::{Frontend, Symbol};
+pub use input::input_sample;
+pub use params::{Design, Gains, Params};
+pub use refusal::Refusal;

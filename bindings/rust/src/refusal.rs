@@ -1,0 +1,137 @@
+use std::error::Error;
+use std::fmt;
+
+/// Why a call was refused. A refused call has changed nothing.
+#[derive(Debug, Clone, Copy, PartialEq, Eq, Hash)]
+#[non_exhaustive]
+pub enum Refusal {
+    /// 1: taps are odd, below 4 or above 64.
+    Taps = 1,
+    /// 2: a bank is not 64 rows of taps long.
+    BankLength = 2,
+    /// 3: a coefficient is outside −131072 .. 131071.
+    Coefficient = 3,
+    /// 4: the magnitudes of a row sum to more than 131071.
+    CoefficientSum = 4,
+    /// 5: h or g is not 0 outside the detector's places, the eight in the middle of a row.
+    DetectorTaps = 5,
+    /// 6: the periods are not 2^24 < min ≤ nominal ≤ max < 2^26.
+    PeriodBounds = 6,
+    /// 7: a field is outside its range: bits 2..8, q_shift 0..15, block_log2 8..15, agc_init 0..2^24 − 1, integrator_max 0..2^22 − 1, ted_shift 0..30,
+    /// kp_shift 0..40, ki_shift 0..40.
+    Range = 7,
+    /// 8: agc_shift is above 63.
+    AgcShift = 8,
+    /// 9: a state that no run under its sheet can have. A [`Frontend`](crate::Frontend) never has one.
+    State = 9,
+    /// 10: an odd number of sample values. Pairs never are one.
+    OddInput = 10,
+    /// 11: fewer places than the answer may take. This crate always lends enough.
+    ShortOutput = 11,
+    /// 12: more than 2^63 − 1 samples in all.
+    TooManySamples = 12,
+    /// 13: an offset was asked of a period outside period_min..period_max.
+    Period = 13,
+    /// 14: the design's samples per symbol are not within 1.0625 ≤ sps < 4.
+    SamplesPerSymbol = 14,
+    /// 15: the design's taps are odd, below 4 or above 64.
+    DesignTaps = 15,
+    /// 16: the design's bits are outside 2..8.
+    DesignBits = 16,
+    /// 17: the design's trim is outside −0.5..0.5.
+    Trim = 17,
+    /// 18: not the number of places that a sheet has, 17.
+    PlaceCount = 18,
+    /// 19: a number is outside the type of its place.
+    PlaceType = 19,
+}
+
+/// All refusals, by number from 1 on.
+const ALL: [Refusal; 19] = [
+    Refusal::Taps,
+    Refusal::BankLength,
+    Refusal::Coefficient,
+    Refusal::CoefficientSum,
+    Refusal::DetectorTaps,
+    Refusal::PeriodBounds,
+    Refusal::Range,
+    Refusal::AgcShift,
+    Refusal::State,
+    Refusal::OddInput,
+    Refusal::ShortOutput,
+    Refusal::TooManySamples,
+    Refusal::Period,
+    Refusal::SamplesPerSymbol,
+    Refusal::DesignTaps,
+    Refusal::DesignBits,
+    Refusal::Trim,
+    Refusal::PlaceCount,
+    Refusal::PlaceType,
+];
+
+impl Refusal {
+    /// Its number, the same in every interface of the front end.
+    ///
+    /// ```
+    /// assert_eq!(huntelm::Refusal::PeriodBounds.number(), 6);
+    /// ```
+    pub fn number(self) -> u32 {
+        self as u32
+    }
+
+    /// The refusal that has this number.
+    ///
+    /// ```
+    /// use huntelm::Refusal;
+    ///
+    /// assert_eq!(Refusal::from_number(12), Some(Refusal::TooManySamples));
+    /// assert_eq!(Refusal::from_number(0), None);
+    /// ```
+    pub fn from_number(number: u32) -> Option<Self> {
+        let place = usize::try_from(number).ok()?.checked_sub(1)?;
+        ALL.get(place).copied()
+    }
+
+    /// The refusal that the archive answered.
+    pub(crate) fn answered(number: u64) -> Self {
+        u32::try_from(number)
+            .ok()
+            .and_then(Self::from_number)
+            .unwrap_or_else(|| {
+                panic!(
+                    "{number} is no refusal: the archive and this crate are of different versions"
+                )
+            })
+    }
+}
+
+impl fmt::Display for Refusal {
+    fn fmt(&self, f: &mut fmt::Formatter<'_>) -> fmt::Result {
+        f.write_str(match self {
+            Self::Taps => "taps are odd, below 4 or above 64",
+            Self::BankLength => "a bank is not 64 rows of taps long",
+            Self::Coefficient => "a coefficient is outside -131072..131071",
+            Self::CoefficientSum => "the magnitudes of a bank's row sum to more than 131071",
+            Self::DetectorTaps => "bank h or g is not 0 outside the detector's places",
+            Self::PeriodBounds => "the periods are not 2^24 < min <= nominal <= max < 2^26",
+            Self::Range => "a field of the sheet is outside its range",
+            Self::AgcShift => "agc_shift is above 63",
+            Self::State => "the state is one that no run under its sheet can have",
+            Self::OddInput => "the number of sample values is odd",
+            Self::ShortOutput => "there are too few places for the answer",
+            Self::TooManySamples => "there are more than 2^63 - 1 samples in all",
+            Self::Period => "the period is outside period_min..period_max",
+            Self::SamplesPerSymbol => {
+                "the design's samples per symbol are not within 1.0625 <= sps < 4"
+            }
+            Self::DesignTaps => "the design's taps are odd, below 4 or above 64",
+            Self::DesignBits => "the design's bits are outside 2..8",
+            Self::Trim => "the design's trim is outside -0.5..0.5",
+            Self::PlaceCount => "the number of places is not the 17 of a sheet",
+            Self::PlaceType => "a number is outside the type of its place",
+        })?;
+        write!(f, " (refusal {})", self.number())
+    }
+}
+
+impl Error for Refusal {}

@@ -1,0 +1,240 @@
+/*
+ * Huntelm: a receiver front end for satellite carriers. Samples go in, symbols come out.
+ *
+ * For C99 and C++ on x86-64 Linux. `make archive` writes target/staticlib/libarchive.a, which holds all functions below and needs nothing but memcpy and
+ * memset. It keeps nothing between calls and allocates nothing, so calls on different buffers may run at the same time.
+ *
+ * What crosses
+ *   a sheet     17 places, the parameters of a run; a place is an int64_t (enum huntelm_sheet_place)
+ *   a bank      64 rows of taps coefficients, row by row; a sheet has three: h and g for the timing detector, k for the output
+ *   a state     186 places (enum huntelm_state_place); huntelm_start writes it, huntelm_block takes it further, and nobody else has to look into it
+ *   samples     int16_t, I before Q
+ *   a symbol    20 places (enum huntelm_symbol_place)
+ * Every buffer is a pointer and a length, and a length counts elements, not bytes.
+ *
+ * What the calls owe you
+ *   No values and no lengths are wrong to call with. Whatever is lent, a call answers, and where something is wrong it answers the number of the
+ *   refusal (enum huntelm_refusal). Of several faults the first in the order that a call's comment has is told. A call that refuses has written nothing.
+ *   All this is proved of the code, for every input.
+ *
+ * What you owe the calls
+ *   A pointer is good for its length: so many elements of its type stand there, aligned, with values in them, and can be written where it is not const.
+ *   With length 0 it may be anything, NULL too: nothing is read or written through it.
+ *   A buffer that is lent for writing overlaps no other buffer of the call. Buffers that are only read may overlap: h and k may be one bank.
+ *   Nobody else writes what is lent while the call runs.
+ */
+#ifndef HUNTELM_H
+#define HUNTELM_H
+
+#include <stddef.h>
+#include <stdint.h>
+
+#ifdef __cplusplus
+extern "C" {
+#endif
+
+#define HUNTELM_SHEET_PLACES 17
+#define HUNTELM_STATE_PLACES 186
+#define HUNTELM_SYMBOL_PLACES 20
+#define HUNTELM_READ_PLACES 3
+#define HUNTELM_RATE_PLACES 5
+#define HUNTELM_FIELD_PLACES 8
+
+/* Rows of a bank: a bank is HUNTELM_ROWS * taps long. */
+#define HUNTELM_ROWS 64
+
+/* Most taps of a row. */
+#define HUNTELM_MAX_TAPS 64
+
+/* What a call refuses. */
+enum huntelm_refusal {
+    HUNTELM_ACCEPTED = 0,
+
+    /* Of a sheet with its banks, in this order; 3 before 4 in each row, row by row, bank by bank (h, g, k). */
+    HUNTELM_REFUSED_TAPS = 1,                /* taps odd, below 4 or above 64 */
+    HUNTELM_REFUSED_BANK_LENGTH = 2,         /* a bank that is not 64 * taps long */
+    HUNTELM_REFUSED_COEFFICIENT = 3,         /* a coefficient outside -131072 .. 131071 */
+    HUNTELM_REFUSED_COEFFICIENT_SUM = 4,     /* a row whose magnitudes sum to more than 131071 */
+    HUNTELM_REFUSED_DETECTOR_TAPS = 5,       /* h or g: a coefficient other than 0 outside the 8 in the middle of a row */
+    HUNTELM_REFUSED_PERIOD_BOUNDS = 6,       /* periods: anything but 2^24 < min <= nominal <= max < 2^26 */
+    HUNTELM_REFUSED_RANGE = 7,               /* another field outside the range that its place below has */
+    HUNTELM_REFUSED_AGC_SHIFT = 8,           /* agc_shift above 63 */
+
+    /* Of a block. */
+    HUNTELM_REFUSED_STATE = 9,               /* not 186 places, or a position, count or register outside its bounds under the sheet */
+    HUNTELM_REFUSED_ODD_INPUT = 10,          /* an odd number of sample values, or of floats */
+    HUNTELM_REFUSED_SHORT_OUTPUT = 11,       /* fewer places than the answer may take */
+    HUNTELM_REFUSED_TOO_MANY_SAMPLES = 12,   /* more than 2^63 - 1 samples in all */
+
+    /* Of an offset. */
+    HUNTELM_REFUSED_PERIOD = 13,             /* a period outside period_min .. period_max */
+
+    /* Of a design. A NaN is outside. */
+    HUNTELM_REFUSED_SAMPLES_PER_SYMBOL = 14, /* sample_rate / symbol_rate outside 1.0625 .. 4, 4 itself excluded */
+    HUNTELM_REFUSED_DESIGN_TAPS = 15,        /* taps odd, below 4 or above 64 */
+    HUNTELM_REFUSED_DESIGN_BITS = 16,        /* bits outside 2 .. 8 */
+    HUNTELM_REFUSED_TRIM = 17,               /* trim outside -0.5 .. 0.5 */
+
+    /* Of the places themselves, before all others. */
+    HUNTELM_REFUSED_PLACE_COUNT = 18,        /* another number of places than the sheet or the design has */
+    HUNTELM_REFUSED_PLACE_TYPE = 19          /* a number that its place does not take */
+};
+
+/*
+ * The places of a sheet: what each takes, and in brackets what is accepted, where that is less. A period is in samples, 2^24 to the sample.
+ */
+enum huntelm_sheet_place {
+    HUNTELM_SHEET_TAPS = 0,            /* uint32_t (4 .. 64, even): coefficients of a row */
+    HUNTELM_SHEET_NCO_STEP = 1,        /* int32_t: what the mixer turns each sample, 2^32 to the turn */
+    HUNTELM_SHEET_PERIOD_NOMINAL = 2,  /* uint32_t: the period at the start */
+    HUNTELM_SHEET_PERIOD_MIN = 3,      /* uint32_t (above 2^24): the shortest that the loop sets */
+    HUNTELM_SHEET_PERIOD_MAX = 4,      /* uint32_t (below 2^26): the longest */
+    HUNTELM_SHEET_TED_SHIFT = 5,       /* uint8_t (0 .. 30): shift of the timing error */
+    HUNTELM_SHEET_KP = 6,              /* int16_t: proportional gain of the timing loop */
+    HUNTELM_SHEET_KP_SHIFT = 7,        /* uint8_t (0 .. 40) */
+    HUNTELM_SHEET_KI = 8,              /* int16_t: integral gain */
+    HUNTELM_SHEET_KI_SHIFT = 9,        /* uint8_t (0 .. 40) */
+    HUNTELM_SHEET_INTEGRATOR_MAX = 10, /* int32_t (0 .. 2^22 - 1): how far the integrator moves the period */
+    HUNTELM_SHEET_AGC_INIT = 11,       /* uint32_t (0 .. 2^24 - 1): gain accumulator at the start, 2^18 for a gain of 1 */
+    HUNTELM_SHEET_AGC_TARGET = 12,     /* uint32_t: power that the gain loop holds */
+    HUNTELM_SHEET_AGC_SHIFT = 13,      /* uint8_t (0 .. 63): shift of the gain error */
+    HUNTELM_SHEET_BITS = 14,           /* uint8_t (2 .. 8): bits of an output component */
+    HUNTELM_SHEET_Q_SHIFT = 15,        /* uint8_t (0 .. 15): shift to them */
+    HUNTELM_SHEET_BLOCK_LOG2 = 16      /* uint8_t (8 .. 15): log2 of the symbols that are stored as one block; no symbol depends on it */
+};
+
+/* The places of a symbol. */
+enum huntelm_symbol_place {
+    HUNTELM_SYMBOL_SAMPLE = 0, /* the sample on which it fell, counted from 0 at the start */
+    HUNTELM_SYMBOL_PHASE = 1,  /* in which sixty-fourth of it: the row of the banks */
+    HUNTELM_SYMBOL_Y_I = 2,    /* what bank h gives */
+    HUNTELM_SYMBOL_Y_Q = 3,
+    HUNTELM_SYMBOL_DY_I = 4,   /* what bank g gives */
+    HUNTELM_SYMBOL_DY_Q = 5,
+    HUNTELM_SYMBOL_YK_I = 6,   /* what bank k gives */
+    HUNTELM_SYMBOL_YK_Q = 7,
+    HUNTELM_SYMBOL_GAIN = 8,   /* the gain in force, 1024 for a gain of 1 */
+    HUNTELM_SYMBOL_PERIOD = 9, /* the period in force, 2^24 to the sample */
+    HUNTELM_SYMBOL_Z_I = 10,   /* y, dy and yk times the gain */
+    HUNTELM_SYMBOL_Z_Q = 11,
+    HUNTELM_SYMBOL_DZ_I = 12,
+    HUNTELM_SYMBOL_DZ_Q = 13,
+    HUNTELM_SYMBOL_ZK_I = 14,
+    HUNTELM_SYMBOL_ZK_Q = 15,
+    HUNTELM_SYMBOL_Q_I = 16,   /* the output, as many bits wide as the sheet says */
+    HUNTELM_SYMBOL_Q_Q = 17,
+    HUNTELM_SYMBOL_E = 18,     /* its timing error, which acts 24 symbols later */
+    HUNTELM_SYMBOL_ERR = 19    /* its gain error, likewise */
+};
+
+/* The places of a state. */
+enum huntelm_state_place {
+    HUNTELM_STATE_NCO = 0,      /* phase of the mixer, 2^32 to the turn */
+    HUNTELM_STATE_T = 1,        /* how far behind the next sample the next symbol lies, 2^24 to the sample */
+    HUNTELM_STATE_V = 2,        /* the loop's integrator */
+    HUNTELM_STATE_PERIOD = 3,
+    HUNTELM_STATE_GAIN_ACC = 4, /* gain accumulator, 256 times the gain */
+    HUNTELM_STATE_SYMBOLS = 5,  /* symbols so far */
+    HUNTELM_STATE_HEAD = 6,     /* where the newest pair of the line stands */
+    HUNTELM_STATE_OLDEST = 7,   /* where the errors stand that have waited longest */
+    HUNTELM_STATE_WAITING = 8,  /* how many errors wait */
+    HUNTELM_STATE_SAMPLES = 9,  /* samples so far */
+    HUNTELM_STATE_LINE = 10,    /* from here 64 pairs i, q */
+    HUNTELM_STATE_PENDING = 138 /* from here 24 pairs e, err */
+};
+
+/* What huntelm_read writes. */
+enum huntelm_read_place {
+    HUNTELM_READ_PERIOD = 0,
+    HUNTELM_READ_GAIN = 1,
+    HUNTELM_READ_SYMBOLS = 2
+};
+
+/* The rates of a design. */
+enum huntelm_rate_place {
+    HUNTELM_RATE_SAMPLE_RATE = 0,    /* samples a second */
+    HUNTELM_RATE_SYMBOL_RATE = 1,    /* symbols a second */
+    HUNTELM_RATE_CARRIER_OFFSET = 2, /* how far the carrier is off, in Hz; the mixer removes it */
+    HUNTELM_RATE_TRIM = 3,           /* where the output is taken, in symbols from where the loop locks */
+    HUNTELM_RATE_AGC_RMS = 4         /* level that the gain loop holds, 1 for the full scale of 16 bits */
+};
+
+/* The whole numbers of a design, each with the type that its place of a sheet has. */
+enum huntelm_field_place {
+    HUNTELM_FIELD_TAPS = 0,
+    HUNTELM_FIELD_BITS = 1,
+    HUNTELM_FIELD_BLOCK_LOG2 = 2,
+    HUNTELM_FIELD_KP = 3,
+    HUNTELM_FIELD_KP_SHIFT = 4,
+    HUNTELM_FIELD_KI = 5,
+    HUNTELM_FIELD_KI_SHIFT = 6,
+    HUNTELM_FIELD_Q_SHIFT = 7
+};
+
+/*
+ * Judges a sheet with its banks. Answers 0 where it is accepted.
+ *
+ * Refusals, in order: 18 sheet_len is not 17; 19; 1 to 8.
+ */
+uint32_t huntelm_judge(const int64_t *sheet, size_t sheet_len, const int32_t *h, size_t h_len, const int32_t *g, size_t g_len, const int32_t *k, size_t k_len);
+
+/*
+ * Writes the state of a fresh start to all 186 places of state, whatever they held. Answers 0.
+ *
+ * Refusals, in order: 18, 19, 1 to 8; 9 state_len is not 186.
+ */
+uint32_t huntelm_start(const int64_t *sheet, size_t sheet_len, const int32_t *h, size_t h_len, const int32_t *g, size_t g_len, const int32_t *k, size_t k_len,
+                       int64_t *state, size_t state_len);
+
+/*
+ * Takes a block of values_len / 2 samples, I before Q, and takes the state further. Writes 20 places for each symbol to out, one symbol after the other, and
+ * leaves the places behind them as they were. Answers how many symbols it wrote, which may be 0, or the number of a refusal below zero.
+ *
+ * A sample gives one symbol at most, and out needs 20 places for each sample, though fewer are written. How samples are cut into blocks changes nothing:
+ * one after another they give the same symbols as all at once. Every call judges the sheet, so large blocks cost less a sample.
+ *
+ * Go on with the sheet and the banks of the start. Under others a state may be refused (9), or taken as one of theirs.
+ *
+ * Refusals, in order: 18, 19, 1 to 8; 9; 10 values_len is odd; 11 out_len / 20 is less than values_len / 2; 12. The state is then as it was.
+ */
+int64_t huntelm_block(const int64_t *sheet, size_t sheet_len, const int32_t *h, size_t h_len, const int32_t *g, size_t g_len, const int32_t *k, size_t k_len,
+                      int64_t *state, size_t state_len, const int16_t *values, size_t values_len, int64_t *out, size_t out_len);
+
+/*
+ * Writes period, gain and number of symbols of a state to the first three places of answer (enum huntelm_read_place). Answers 0.
+ *
+ * Refusals, in order: 18, 19, 1 to 8; 9; 11 answer_len is below 3.
+ */
+uint32_t huntelm_read(const int64_t *sheet, size_t sheet_len, const int32_t *h, size_t h_len, const int32_t *g, size_t g_len, const int32_t *k, size_t k_len,
+                      const int64_t *state, size_t state_len, int64_t *answer, size_t answer_len);
+
+/*
+ * Writes how far a period is from the nominal one, in parts per thousand million, rounded down, to the first place of answer. Answers 0.
+ *
+ * Refusals, in order: 18, 19, 1 to 8; 13; 11 answer_len is 0.
+ */
+uint32_t huntelm_offset(const int64_t *sheet, size_t sheet_len, const int32_t *h, size_t h_len, const int32_t *g, size_t g_len, const int32_t *k, size_t k_len,
+                        uint32_t period, int64_t *answer, size_t answer_len);
+
+/*
+ * Turns the components of float samples, I before Q, to sample values: each times 2048, rounded to the nearest with ties away from zero, clamped
+ * to -2048 .. 2047, a NaN to 0. Writes the first floats_len places of values and leaves those behind them as they were. Answers 0.
+ *
+ * Refusals, in order: 10 floats_len is odd; 11 values_len is less than floats_len.
+ */
+uint32_t huntelm_sample(const float *floats, size_t floats_len, int16_t *values, size_t values_len);
+
+/*
+ * Makes a sheet of a design: five rates (enum huntelm_rate_place), eight whole numbers (enum huntelm_field_place) and the three banks, and judges it.
+ * Writes the sheet to the first 17 places of sheet. Answers 0.
+ *
+ * Refusals, in order: 18 rates_len is not 5 or fields_len is not 8; 19 a field outside its type; 14 to 17; 1 to 8; 11 sheet_len is below 17.
+ */
+uint32_t huntelm_design(const double *rates, size_t rates_len, const int64_t *fields, size_t fields_len,
+                        const int32_t *h, size_t h_len, const int32_t *g, size_t g_len, const int32_t *k, size_t k_len, int64_t *sheet, size_t sheet_len);
+
+#ifdef __cplusplus
+}
+#endif
+
+#endif
