@@ -2,5 +2,6 @@
 pub mod OfKind
 pub mod Readable
 pub mod Twos
+pub mod Widths
 pub mod Answers
 pub mod Crossing

@@ -2,6 +2,7 @@
 -- and what is claimed of states that cross.
 pub mod Places
 pub mod Sheet
+pub mod Rates
 pub mod State
 pub mod Calls
 pub mod Crossing
