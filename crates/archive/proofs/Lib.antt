@@ -5,3 +5,4 @@ pub mod Twos
 pub mod Widths
 pub mod Answers
 pub mod Crossing
+pub mod Sheets

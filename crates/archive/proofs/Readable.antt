@@ -18,17 +18,21 @@ use Rattle.archive.proofs.OfKind.{both-first, both-second, kind-at}
 
 -- ---- places of some kinds
 
-readable-kinds : (kinds : List ℕ) (l : List ℤ) → placesNumber kinds l ≡ 0 → areKinds kinds l ≡ true
+pub record Readable (kinds : List ℕ) (l : List ℤ) : Type 0 where
+  pub long : length l ≡ length kinds
+  pub each : areKinds kinds l ≡ true
+
+pub readable : (kinds : List ℕ) (l : List ℤ) → placesNumber kinds l ≡ 0 → Readable kinds l
 unfolding placesNumber
-readable-kinds kinds l e = go (eqb (length l) (length kinds)) (areKinds kinds l) refl e
+readable kinds l e = go (eqb (length l) (length kinds)) (areKinds kinds l) refl refl e
   where
-    go : (a b : Bool) → areKinds kinds l ≡ b → _≡_ {A = ℕ} (cond a (cond b 0 19) 18) 0 → areKinds kinds l ≡ true
-    go true true k e = k
-    go true false k e = absurd (omega arith)
-    go false b k e = absurd (omega arith)
+    go : (a b : Bool) → eqb (length l) (length kinds) ≡ a → areKinds kinds l ≡ b → _≡_ {A = ℕ} (cond a (cond b 0 19) 18) 0 → Readable kinds l
+    go true true t k e = record { long = eqb-true (length l) (length kinds) t; each = k }
+    go true false t k e = absurd (omega arith)
+    go false b t k e = absurd (omega arith)
 
 pub readable-at : (kinds : List ℕ) (l : List ℤ) → placesNumber kinds l ≡ 0 → (n : ℕ) → n < length kinds → KindAt (getD kinds n 0) l n
-readable-at kinds l e n h = kind-at kinds l (readable-kinds kinds l e) n h
+readable-at kinds l e n h = kind-at kinds l (readable kinds l e .each) n h
 
 -- ---- a sheet
 

@@ -1,5 +1,5 @@
 -- What a reader has to believe of the C interface: which numbers a place takes, the sheet and the state as places, what each call answers,
--- and what is claimed of states that cross.
+-- and what is claimed of sheets and states that cross.
 pub mod Places
 pub mod Sheet
 pub mod Rates

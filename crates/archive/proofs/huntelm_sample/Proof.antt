@@ -48,9 +48,10 @@ returns c =
 returns-2 : tie.Need-returns-2 Inv-loop μ-loop
 unfolding sampleAnswer
 returns-2 c =
-    let a = c .before .before .before .args in
-    let short : _≡_ {A = ℕ} 11 (cond (leb (length (a .floats .now)) (length (a .values .now))) 0 11) = rw (lt-leb (length (a .floats .now)) (length (a .values .now)) (c .if2 .taken)) refl in
-    refuses _ _ _ (λ z. absurd (omega arith)) (even (a .floats .now) (a .values .now) (c .before .if1 .left) short)
+    let floats = c .before .before .before .args .floats .now in
+    let values = c .before .before .before .args .values .now in
+    let short : _≡_ {A = ℕ} 11 (cond (leb (length floats) (length values)) 0 11) = rw (lt-leb (length floats) (length values) (c .if2 .taken)) refl in
+    refuses _ _ _ (λ z. absurd (omega arith)) (even floats values (c .before .if1 .left) short)
 
 -- ---- what is written
 

@@ -1,6 +1,5 @@
 -- `archive::places::fault` meets its contract: it asks for the number of places, then for their kinds, as the definition does.
 use mathlib.Core.Path.{refl, sym, _∙_}
-use lib.ListN.{length}
 use borrow.Author.Needs.{needs}
 use borrow.Author.Tests.{eq-eqb, ne-eqb, not-true, not-false}
 use Rattle.archive.specs.Places.{placesNumber}
