@@ -92,7 +92,7 @@ abbrev pub refusedBy : Designed Params → ℕ
 refusedBy (accepted p) = 0
 refusedBy (refused r) = r .number
 
--- The places of its sheet, in front of those that were there; none are written where there is no sheet.
+-- What it leaves in places: its sheet in the first 17, and all as it was where there is no sheet.
 abbrev pub writtenBy : Designed Params → List ℤ → List ℤ
 writtenBy (accepted p) places = sheetNumbers p ++ drop 17 places
 writtenBy (refused r) places = places
