@@ -1,23 +1,22 @@
 -- States cross unchanged. A place without its sign is the place where it has none, and two by two taken apart and put together undo each other (Twos).
 use Prim.Native.Nat.{ℕ, suc, _*_, _%_, _<_}
-use mathlib.Core.Path.{_≡_, refl, sym, ap, subst, _∙_}
-use mathlib.Core.Bool.{Bool, true, _&&_}
+use mathlib.Core.Path.{_≡_, refl, ap, subst, _∙_}
+use mathlib.Core.Bool.{true}
 use mathlib.Core.List.{List, [], _∷_, _++_, append-nil}
 use native.Mathlib.Omega.{arith}
 use lib.Dec.{lit<}
 use lib.ListN.{length, getD, take, drop, replicate, length-append, length-drop, take-append-drop}
-use lib.Seq.{take-all, take-at, drop-at, drop-cons, length-take-le, drop-drop}
-use lib.IntN.{ℤ, pos, natAbs}
-use lib.Signed.{pos-natAbs}
+use lib.Seq.{take-all, take-at, drop-at, length-take-le, drop-drop}
+use lib.IntN.{ℤ}
 use borrow.Author.Tests.{eq-eqb}
 use Rattle.fixed.specs.declared.Pair.{Pair}
 use Rattle.fixed.specs.declared.Pending.{Pending}
 use Rattle.fixed.specs.declared.Frontend.{Frontend}
 use Rattle.fixed.specs.Start.{noPair, noPending}
-use Rattle.archive.specs.Places.{at, u32, i32, count, isKind, areKinds}
+use Rattle.archive.specs.Places.{at, i32, isKind, areKinds}
 use Rattle.archive.specs.State.{untwos, lineOf, pendingOf, lineNumbers, pendingNumbers, stateKinds, stateFits, stateOf, numbersOf}
 use Rattle.archive.specs.Crossing.{Whole, Typed, StatesCross}
-use Rattle.archive.proofs.OfKind.{is-u32, is-count}
+use Rattle.archive.proofs.OfKind.{both, own-u32, own-count, front}
 use Rattle.archive.proofs.Readable.{state-long, firstKinds, state-at}
 use Rattle.archive.proofs.Twos.{untwos-long, twos-untwos, untwos-twos}
 
@@ -65,10 +64,6 @@ back f w =
 
 -- ---- what was written fits
 
--- two tests, of which both hold
-both : {a b : Bool} → a ≡ true → b ≡ true → (a && b) ≡ true
-both {a} {b} e k = ap (λ (t : Bool). t && b) e ∙ k
-
 module _ {A : Type 0} (first second : A → ℤ) (d : A) where
   -- numbers of one kind in front of others
   pairs-fit : (kind : ℕ) (xs : List A) (kinds : List ℕ) (l : List ℤ) → ((n : ℕ) → isKind kind (first (getD xs n d)) ≡ true) → ((n : ℕ) → isKind kind (second (getD xs n d)) ≡ true)
@@ -105,18 +100,11 @@ fit f w t =
 
 module _ (l : List ℤ) (fits : stateFits l ≡ true) where
   -- a place in front of those behind it
-  front : (n : ℕ) → n < 10 → {z : ℤ} {rest : List ℤ} → z ≡ at l n → rest ≡ drop (suc n) l → z ∷ rest ≡ drop n l
-  front n h e k = (λ i. e i ∷ k i) ∙ sym (drop-cons l n (pos 0) (omega (arith, state-long l fits)))
+  place : (n : ℕ) → n < 10 → {z : ℤ} {rest : List ℤ} → z ≡ at l n → rest ≡ drop (suc n) l → z ∷ rest ≡ drop n l
+  place n h e k = front l n (omega (arith, state-long l fits)) e k
 
   kind : (n : ℕ) → n < 10 → isKind (getD firstKinds n 0) (at l n) ≡ true
   kind n h = state-at l fits n h .is
-
-  -- a place of an unsigned field
-  word : (n : ℕ) → isKind u32 (at l n) ≡ true → pos (natAbs (at l n)) ≡ at l n
-  word n is = pos-natAbs (at l n) (is-u32 (at l n) is .0)
-
-  counts : (n : ℕ) → isKind count (at l n) ≡ true → pos (natAbs (at l n)) ≡ at l n
-  counts n is = pos-natAbs (at l n) (is-count (at l n) is .0)
 
   -- the pairs
   behind : lineNumbers (lineOf (take 128 (drop 10 l))) ++ pendingNumbers (pendingOf (take 48 (drop 138 l))) ≡ drop 10 l
@@ -131,16 +119,16 @@ module _ (l : List ℤ) (fits : stateFits l ≡ true) where
   again : numbersOf (stateOf l) ≡ l
   unfolding stateOf numbersOf
   again =
-      front 0 (lit< tt) (word 0 (kind 0 (lit< tt)))
-      (front 1 (lit< tt) refl
-      (front 2 (lit< tt) refl
-      (front 3 (lit< tt) (word 3 (kind 3 (lit< tt)))
-      (front 4 (lit< tt) (word 4 (kind 4 (lit< tt)))
-      (front 5 (lit< tt) (counts 5 (kind 5 (lit< tt)))
-      (front 6 (lit< tt) (counts 6 (kind 6 (lit< tt)))
-      (front 7 (lit< tt) (counts 7 (kind 7 (lit< tt)))
-      (front 8 (lit< tt) (counts 8 (kind 8 (lit< tt)))
-      (front 9 (lit< tt) (counts 9 (kind 9 (lit< tt))) behind)))))))))
+      place 0 (lit< tt) (own-u32 (at l 0) (kind 0 (lit< tt)))
+      (place 1 (lit< tt) refl
+      (place 2 (lit< tt) refl
+      (place 3 (lit< tt) (own-u32 (at l 3) (kind 3 (lit< tt)))
+      (place 4 (lit< tt) (own-u32 (at l 4) (kind 4 (lit< tt)))
+      (place 5 (lit< tt) (own-count (at l 5) (kind 5 (lit< tt)))
+      (place 6 (lit< tt) (own-count (at l 6) (kind 6 (lit< tt)))
+      (place 7 (lit< tt) (own-count (at l 7) (kind 7 (lit< tt)))
+      (place 8 (lit< tt) (own-count (at l 8) (kind 8 (lit< tt)))
+      (place 9 (lit< tt) (own-count (at l 9) (kind 9 (lit< tt))) behind)))))))))
 
 pub states-cross : StatesCross
 states-cross = record { back = back; fit = fit; again = again }

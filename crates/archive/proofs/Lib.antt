@@ -2,5 +2,7 @@
 pub mod OfKind
 pub mod Readable
 pub mod Twos
+pub mod Widths
 pub mod Answers
 pub mod Crossing
+pub mod Sheets

@@ -1,6 +1,6 @@
--- Numbers of a kind: they fit the kind's type, and places that were looked at one after the other have each their kind.
+-- Numbers of a kind: they fit the kind's type, and those that fit are of it; places that were looked at one after the other have each their kind.
 use Prim.Native.Nat.{ℕ, zero, suc, _+_, _<_, _≤_}
-use mathlib.Core.Path.{_≡_, refl}
+use mathlib.Core.Path.{_≡_, refl, sym, ap, _∙_}
 use mathlib.Core.Bool.{Bool, true, false, _&&_}
 use mathlib.Core.List.{List, [], _∷_}
 use native.Mathlib.Omega.{arith}
@@ -9,10 +9,10 @@ use lib.Dec.{T}
 use lib.ListN.{length, getD, drop}
 use lib.Seq.{drop-cons}
 use lib.IntN.{ℤ, pos, natAbs}
-use lib.Signed.{leZ, nonNeg}
+use lib.Signed.{leZ, nonNeg, pos-natAbs}
 use mir.Syntax.{Width, w8, w16, w32, w64}
 use mir.Val.{Fits, SFits}
-use Rattle.arith.proofs.Order.{P, N, nat-pn, le-pn, pn-fit, unsign}
+use Rattle.arith.proofs.Order.{P, N, nat-pn, le-pn, pn-le, pn-fit, unsign}
 use Rattle.archive.specs.Places.{at, u8, u32, i16, i32, count, least, most, isKind, areKinds, KindAt}
 
 -- ---- two tests, of which both hold
@@ -30,6 +30,9 @@ both-second false b e = absurd (false-true e)
   where
     false-true : false ≡ true → ⊥
     false-true p = let z : _≡_ {A = ℕ} 0 1 = cc in omega arith
+
+pub both : {a b : Bool} → a ≡ true → b ≡ true → (a && b) ≡ true
+both {a} {b} e k = ap (λ (t : Bool). t && b) e ∙ k
 
 -- ---- a number of a kind fits the type
 
@@ -70,6 +73,40 @@ is-i16 z e = pn-fit (omega (arith, most-of i16 z e)) (omega (arith, least-of i16
 pub is-i32 : (z : ℤ) → isKind i32 z ≡ true → SFits w32 z
 unfolding least most
 is-i32 z e = pn-fit (omega (arith, most-of i32 z e)) (omega (arith, least-of i32 z e))
+
+-- ---- without its sign it is the same
+
+pub own-u8 : (z : ℤ) → isKind u8 z ≡ true → pos (natAbs z) ≡ z
+own-u8 z e = pos-natAbs z (is-u8 z e .0)
+
+pub own-u32 : (z : ℤ) → isKind u32 z ≡ true → pos (natAbs z) ≡ z
+own-u32 z e = pos-natAbs z (is-u32 z e .0)
+
+pub own-count : (z : ℤ) → isKind count z ≡ true → pos (natAbs z) ≡ z
+own-count z e = pos-natAbs z (is-count z e .0)
+
+-- ---- a number that fits the type is one of the kind
+
+of-kind : (kind : ℕ) (z : ℤ) → P (least kind) + N z ≤ P z + N (least kind) → P z + N (most kind) ≤ P (most kind) + N z → isKind kind z ≡ true
+unfolding isKind
+of-kind kind z low high = both (pn-le (least kind) z low) (pn-le z (most kind) high)
+
+pub u8-is : (n : ℕ) → n < 256 → isKind u8 (pos n) ≡ true
+unfolding least most
+u8-is n h = of-kind u8 (pos n) (omega arith) (omega arith)
+
+pub u32-is : (n : ℕ) → n < 4294967296 → isKind u32 (pos n) ≡ true
+unfolding least most
+u32-is n h = of-kind u32 (pos n) (omega arith) (omega arith)
+
+pub i32-is : (z : ℤ) → P z < 2147483648 + N z → N z ≤ 2147483648 + P z → isKind i32 z ≡ true
+unfolding least most
+i32-is z high low = of-kind i32 z (omega arith) (omega arith)
+
+-- ---- a place in front of those behind it
+
+pub front : (l : List ℤ) (n : ℕ) → n < length l → {z : ℤ} {rest : List ℤ} → z ≡ at l n → rest ≡ drop (suc n) l → z ∷ rest ≡ drop n l
+front l n h e k = (λ i. e i ∷ k i) ∙ sym (drop-cons l n (pos 0) h)
 
 -- ---- places that were looked at
 

@@ -1,4 +1,4 @@
--- A sheet and a state that can be read: each of their places has a number of its field's type.
+-- A sheet, a design and a state that can be read: each of their places has a number of its field's type.
 use Prim.Native.Nat.{ℕ, _+_, _-_, _≤_, _<_}
 use mathlib.Core.Path.{_≡_, refl, subst, _∙_}
 use mathlib.Core.Bool.{Bool, true, false, cond}
@@ -8,25 +8,50 @@ use lib.Dec.{eqb}
 use lib.ListN.{length, getD, replicate, getD-replicate, List·getD-append}
 use lib.Seq.{getD-append-add}
 use lib.IntN.{ℤ}
+use lib.Ieee.{Float}
 use borrow.Author.Tests.{eqb-true}
-use Rattle.archive.specs.Places.{u32, i32, i64, count, areKinds, KindAt}
+use Rattle.archive.specs.Places.{u32, i32, i64, count, areKinds, placesNumber, KindAt}
 use Rattle.archive.specs.Sheet.{sheetKinds, sheetNumber}
+use Rattle.archive.specs.Rates.{designKinds, designNumber}
 use Rattle.archive.specs.State.{stateKinds, stateFits}
 use Rattle.archive.proofs.OfKind.{both-first, both-second, kind-at}
 
+-- ---- places of some kinds
+
+pub record Readable (kinds : List ℕ) (l : List ℤ) : Type 0 where
+  pub long : length l ≡ length kinds
+  pub each : areKinds kinds l ≡ true
+
+pub readable : (kinds : List ℕ) (l : List ℤ) → placesNumber kinds l ≡ 0 → Readable kinds l
+unfolding placesNumber
+readable kinds l e = go (eqb (length l) (length kinds)) (areKinds kinds l) refl refl e
+  where
+    go : (a b : Bool) → eqb (length l) (length kinds) ≡ a → areKinds kinds l ≡ b → _≡_ {A = ℕ} (cond a (cond b 0 19) 18) 0 → Readable kinds l
+    go true true t k e = record { long = eqb-true (length l) (length kinds) t; each = k }
+    go true false t k e = absurd (omega arith)
+    go false b t k e = absurd (omega arith)
+
+pub readable-at : (kinds : List ℕ) (l : List ℤ) → placesNumber kinds l ≡ 0 → (n : ℕ) → n < length kinds → KindAt (getD kinds n 0) l n
+readable-at kinds l e n h = kind-at kinds l (readable kinds l e .each) n h
+
 -- ---- a sheet
 
-sheet-kinds : (l : List ℤ) → sheetNumber l ≡ 0 → areKinds sheetKinds l ≡ true
-unfolding sheetNumber
-sheet-kinds l e = go (eqb (length l) 17) (areKinds sheetKinds l) refl e
-  where
-    go : (a b : Bool) → areKinds sheetKinds l ≡ b → _≡_ {A = ℕ} (cond a (cond b 0 19) 18) 0 → areKinds sheetKinds l ≡ true
-    go true true k e = k
-    go true false k e = absurd (omega arith)
-    go false b k e = absurd (omega arith)
-
 pub sheet-at : (l : List ℤ) → sheetNumber l ≡ 0 → (n : ℕ) → n < 17 → KindAt (getD sheetKinds n 0) l n
-sheet-at l e n h = kind-at sheetKinds l (sheet-kinds l e) n h
+sheet-at l e n h = readable-at sheetKinds l e n h
+
+-- ---- a design
+
+pub record ReadableDesign (rates : List Float) (fields : List ℤ) : Type 0 where
+  pub long : length rates ≡ 5
+  pub kinds : placesNumber designKinds fields ≡ 0
+
+pub readable-design : (rates : List Float) (fields : List ℤ) → designNumber rates fields ≡ 0 → ReadableDesign rates fields
+unfolding designNumber
+readable-design rates fields e = go (eqb (length rates) 5) refl
+  where
+    go : (b : Bool) → eqb (length rates) 5 ≡ b → ReadableDesign rates fields
+    go true t = record { long = eqb-true (length rates) 5 t; kinds = rw t at e }
+    go false t = let z : _≡_ {A = ℕ} 18 0 = rw t at e in absurd (omega arith)
 
 -- ---- a state
 

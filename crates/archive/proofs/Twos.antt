@@ -6,10 +6,6 @@ use native.Mathlib.Omega.{arith}
 use lib.ListN.{length, getD, set, take, drop, length-drop}
 use lib.Seq.{ext-getD, getD-take, getD-drop, length-take-le, take-all, paste, paste-suc}
 use lib.IntN.{ℤ, pos}
-use lib.Signed.{mag}
-use mir.Syntax.{w32, w64}
-use mir.Val.{SFits, toZ, ofZ}
-use Rattle.arith.proofs.Bits.{widens}
 use Rattle.fixed.proofs.Filling.{Filled}
 use Rattle.archive.specs.Places.{at}
 use Rattle.archive.specs.State.{twos, untwos}
@@ -106,8 +102,3 @@ module _ {A : Type 0} (of : ℤ → ℤ → A) (first second : A → ℤ) where
   untwos-twos e k [] h = refl
   untwos-twos e k (a ∷ []) h = absurd (omega arith)
   untwos-twos e k (a ∷ b ∷ l) h = λ i. e a b i ∷ k a b i ∷ untwos-twos e k l (omega arith) i
-
--- ---- a number of 32 bits, as a place takes it
-
-pub widens-32 : (z : ℤ) → mag z < 2147483648 → SFits w64 (toZ w32 (ofZ w32 z))
-widens-32 z h = widens {w = w32} w64 {z = z} tt (record { sfits = h })

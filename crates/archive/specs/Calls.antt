@@ -1,17 +1,23 @@
 -- What each call of the C interface answers, for any places, banks and buffers. The answers are those of judging, starting, the block, reading and the offset;
 -- ours is only how they cross: refusals by number alone, states as places, and no buffer touched by a call that is refused.
 -- (Document 01: 'The sheet', 'A sample's way', 'A block', 'Around the path'.)
-use Prim.Native.Nat.{ℕ}
+use Prim.Native.Nat.{ℕ, _%_}
 use mathlib.Core.Bool.{cond}
-use mathlib.Core.List.{List, _∷_}
+use mathlib.Core.List.{List, _∷_, _++_, map}
 use lib.Dec.{eqb, leb}
 use lib.ListN.{length, drop}
 use lib.IntN.{ℤ, pos, negℤ}
+use lib.Ieee.{Float}
+use Rattle.params.specs.declared.Params.{Params}
 use Rattle.params.specs.Judge.{Sheet, sheetOf, judged}
 use Rattle.params.specs.Offset.{Parts, offsetOf}
+use Rattle.input.specs.Input.{componentOf}
+use Rattle.design.specs.Refusal.{Answer as Designed, accepted, refused}
+use Rattle.design.specs.Design.{sheetOfDesign}
 use Rattle.fixed.specs.Start.{Start, startOf}
 use Rattle.fixed.specs.Block.{Block, blockOf, Read, readOf}
-use Rattle.archive.specs.Sheet.{sheetNumber, paramsOf}
+use Rattle.archive.specs.Sheet.{sheetNumber, paramsOf, sheetNumbers}
+use Rattle.archive.specs.Rates.{designNumber, designAt, gainsAt}
 use Rattle.archive.specs.State.{stateFits, stateOf, numbersOf}
 
 -- The first of two numbers of refusals, 0 standing for none.
@@ -74,3 +80,25 @@ unfoldable pub offsetAnswer : List ℤ → List ℤ → List ℤ → List ℤ �
 offsetAnswer l h g k period places =
     let a : Parts = offsetOf (sheetAt l h g k) period in
     answered (first (sheetNumber l) (first (a .refused .number) (cond (leb 1 (length places)) 0 11))) (a .parts ∷ drop 1 places) places
+
+-- Float samples: 10 for an odd number of floats, then 11 where there are fewer places than floats. Each float is a component by itself, and goes to the place of its number.
+unfoldable pub sampleAnswer : List Float → List ℤ → Answer
+sampleAnswer floats places =
+    answered (first (cond (eqb (length floats % 2) 0) 0 10) (cond (leb (length floats) (length places)) 0 11))
+    (map componentOf floats ++ drop (length floats) places) places
+
+-- The number of a design's answer, 0 for a sheet.
+abbrev pub refusedBy : Designed Params → ℕ
+refusedBy (accepted p) = 0
+refusedBy (refused r) = r .number
+
+-- What it leaves in places: its sheet in the first 17, and all as it was where there is no sheet.
+abbrev pub writtenBy : Designed Params → List ℤ → List ℤ
+writtenBy (accepted p) places = sheetNumbers p ++ drop 17 places
+writtenBy (refused r) places = places
+
+-- A design and its sheet: 18 and 19, 14 to 17, 1 to 8, then 11 where there are fewer than 17 places for the sheet.
+unfoldable pub designAnswer : List Float → List ℤ → List ℤ → List ℤ → List ℤ → List ℤ → Answer
+designAnswer rates fields h g k places =
+    let a : Designed Params = sheetOfDesign (designAt rates fields) (gainsAt fields) h g k in
+    answered (first (designNumber rates fields) (first (refusedBy a) (cond (leb 17 (length places)) 0 11))) (writtenBy a places) places

@@ -1,14 +1,59 @@
--- What is claimed of states as places: crossing changes none, and what a call wrote the next call can read.
+-- What is claimed of sheets and states as places: crossing changes none, and what a call wrote the next call can read.
 use Prim.Native.Nat.{ℕ}
 use mathlib.Core.Path.{_≡_}
 use mathlib.Core.Bool.{true}
 use mathlib.Core.List.{List}
-use lib.ListN.{length, getD}
+use lib.ListN.{length, getD, take}
 use lib.IntN.{ℤ, pos}
+use lib.Ieee.{Float}
+use Rattle.params.specs.declared.Params.{Params}
+use Rattle.design.specs.Refusal.{accepted}
+use Rattle.design.specs.Design.{sheetOfDesign}
 use Rattle.fixed.specs.declared.Frontend.{Frontend}
 use Rattle.fixed.specs.Start.{noPair, noPending}
-use Rattle.archive.specs.Places.{u32, i32, i64, count, isKind}
+use Rattle.archive.specs.Places.{u8, u32, i16, i32, i64, count, isKind}
+use Rattle.archive.specs.Sheet.{sheetNumber, paramsOf, sheetNumbers}
+use Rattle.archive.specs.Rates.{designAt, gainsAt}
 use Rattle.archive.specs.State.{stateFits, stateOf, numbersOf}
+use Rattle.archive.specs.Calls.{judgeNumber, designAnswer}
+
+-- ---- sheets
+
+-- The fields of a sheet are numbers of their types.
+pub record TypedSheet (p : Params) : Type 0 where
+  pub taps : isKind u32 (pos (p .taps)) ≡ true
+  pub «nco_step» : isKind i32 (p .«nco_step») ≡ true
+  pub «period_nominal» : isKind u32 (pos (p .«period_nominal»)) ≡ true
+  pub «period_min» : isKind u32 (pos (p .«period_min»)) ≡ true
+  pub «period_max» : isKind u32 (pos (p .«period_max»)) ≡ true
+  pub «ted_shift» : isKind u8 (pos (p .«ted_shift»)) ≡ true
+  pub kp : isKind i16 (p .kp) ≡ true
+  pub «kp_shift» : isKind u8 (pos (p .«kp_shift»)) ≡ true
+  pub ki : isKind i16 (p .ki) ≡ true
+  pub «ki_shift» : isKind u8 (pos (p .«ki_shift»)) ≡ true
+  pub «integrator_max» : isKind i32 (p .«integrator_max») ≡ true
+  pub «agc_init» : isKind u32 (pos (p .«agc_init»)) ≡ true
+  pub «agc_target» : isKind u32 (pos (p .«agc_target»)) ≡ true
+  pub «agc_shift» : isKind u8 (pos (p .«agc_shift»)) ≡ true
+  pub bits : isKind u8 (pos (p .bits)) ≡ true
+  pub «q_shift» : isKind u8 (pos (p .«q_shift»)) ≡ true
+  pub «block_log2» : isKind u8 (pos (p .«block_log2»)) ≡ true
+
+-- A design's sheet as its call wrote it: read again it is the sheet that the design makes, and judging accepts it with the same banks.
+pub record Made (rates : List Float) (fields h g k sheet : List ℤ) : Type 0 where
+  pub is : sheetOfDesign (designAt rates fields) (gainsAt fields) h g k ≡ accepted (paramsOf sheet)
+  pub judges : judgeNumber sheet h g k ≡ 0
+
+-- A sheet that is written to places and read again is the same in every field, and its places are those of a sheet; places of a sheet that are read and
+-- written again hold what they held; and the first 17 places that a design's call leaves, where it refuses nothing, are the design's sheet.
+pub record SheetsCross : Type 0 where
+  pub back : (p : Params) → paramsOf (sheetNumbers p) ≡ p
+  pub fit : (p : Params) → TypedSheet p → sheetNumber (sheetNumbers p) ≡ 0
+  pub again : (l : List ℤ) → sheetNumber l ≡ 0 → sheetNumbers (paramsOf l) ≡ l
+  pub made : (rates : List Float) (fields h g k places : List ℤ) → designAnswer rates fields h g k places .number ≡ 0
+      → Made rates fields h g k (take 17 (designAnswer rates fields h g k places .places))
+
+-- ---- states
 
 -- A state has a line of 64 pairs and 24 pairs of waiting errors, as its arrays have.
 pub record Whole (f : Frontend) : Type 0 where

@@ -61,6 +61,11 @@ areKinds [] l = true
 areKinds (kind ∷ kinds) [] = false
 areKinds (kind ∷ kinds) (z ∷ l) = isKind kind z && areKinds kinds l
 
+-- 18: there is a place for each kind, and no other. 19: each takes a number of its kind. 0 where both hold.
+-- (Document 01, 'The symbol program', has the same two numbers for a line with another number of fields and for a value outside its type.)
+unfoldable pub placesNumber : List ℕ → List ℤ → ℕ
+placesNumber kinds l = cond (eqb (length l) (length kinds)) (cond (areKinds kinds l) 0 19) 18
+
 -- There is a place n, and its number is one of a kind.
 pub record KindAt (kind : ℕ) (l : List ℤ) (n : ℕ) : Type 0 where
   pub inside : n < length l

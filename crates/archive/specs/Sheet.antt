@@ -1,23 +1,19 @@
 -- A sheet as 17 places, its fields in the order in which document 01 lists them.
 -- (Document 01, 'The sheet': the fields and their types. That a sheet crosses as places is ours.)
 use Prim.Native.Nat.{ℕ}
-use mathlib.Core.Bool.{cond}
 use mathlib.Core.List.{List, [], _∷_}
-use lib.Dec.{eqb}
-use lib.ListN.{length}
-use lib.IntN.{ℤ, natAbs}
+use lib.IntN.{ℤ, pos, natAbs}
 use Rattle.params.specs.declared.Params.{Params}
-use Rattle.archive.specs.Places.{at, u8, u32, i16, i32, areKinds}
+use Rattle.archive.specs.Places.{at, u8, u32, i16, i32, placesNumber}
 
 -- The types of the fields.
 abbrev pub sheetKinds : List ℕ
 sheetKinds =
     u32 ∷ i32 ∷ u32 ∷ u32 ∷ u32 ∷ u8 ∷ i16 ∷ u8 ∷ i16 ∷ u8 ∷ i32 ∷ u32 ∷ u32 ∷ u8 ∷ u8 ∷ u8 ∷ u8 ∷ []
 
--- 18: there are 17 places. 19: each takes a number of its field's type. 0 where both hold.
--- (Document 01, 'The symbol program', has the same two numbers for a line of other than 17 fields and a value outside its type.)
-unfoldable pub sheetNumber : List ℤ → ℕ
-sheetNumber l = cond (eqb (length l) 17) (cond (areKinds sheetKinds l) 0 19) 18
+-- 18 for another number of places than 17, 19 for one whose number is not of its field's type, and 0 for a sheet that can be read.
+abbrev pub sheetNumber : List ℤ → ℕ
+sheetNumber l = placesNumber sheetKinds l
 
 -- The fields. The number of an unsigned field is the place's without its sign: of a sheet that is not refused by 19 the place's own.
 unfoldable pub paramsOf : List ℤ → Params
@@ -40,3 +36,9 @@ paramsOf l = record {
   «q_shift» = natAbs (at l 15);
   «block_log2» = natAbs (at l 16);
 }
+
+-- The places of a sheet.
+unfoldable pub sheetNumbers : Params → List ℤ
+sheetNumbers p =
+    pos (p .taps) ∷ p .«nco_step» ∷ pos (p .«period_nominal») ∷ pos (p .«period_min») ∷ pos (p .«period_max») ∷ pos (p .«ted_shift») ∷ p .kp ∷ pos (p .«kp_shift») ∷ p .ki
+    ∷ pos (p .«ki_shift») ∷ p .«integrator_max» ∷ pos (p .«agc_init») ∷ pos (p .«agc_target») ∷ pos (p .«agc_shift») ∷ pos (p .bits) ∷ pos (p .«q_shift») ∷ pos (p .«block_log2») ∷ []

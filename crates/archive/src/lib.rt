@@ -1,17 +1,19 @@
-// The front end for C and Rust: judging, starting, the block, reading and the offset, over numbers and lent slices.
+// The front end for C and Rust: judging, starting, the block, reading, the offset, float samples and designs, over numbers and lent slices.
 //
 // No call asks anything of its caller: whatever is lent, it answers, with a refusal's number where something is wrong, and then it has touched no place.
-// A sheet is 17 places and a state 186 (sheet.rt, state.rt). 18 and 19 refuse a sheet that cannot be read, before 1 to 8; places that are those of
-// no state are refused by 9, after 1 to 8.
+// A sheet is 17 places and a state 186, a design five rates and eight places (sheet.rt, state.rt, rates.rt). 18 and 19 refuse a sheet or a design that
+// cannot be read, before 1 to 8 and 14 to 17; places that are those of no state are refused by 9, after 1 to 8.
 mod number;
 mod places;
+mod rates;
 mod sheet;
 mod state;
 
+use design::SheetVerdict;
 use params::Params;
 ghost use mathlib.Core.Path.{_≡_};
 ghost use Rattle.params.specs.Judge.{sheetOf, judged};
-ghost use Rattle.archive.specs.Calls.{first, judgeNumber, startAnswer, blockAnswer, readAnswer, offsetAnswer};
+ghost use Rattle.archive.specs.Calls.{first, judgeNumber, startAnswer, blockAnswer, readAnswer, offsetAnswer, sampleAnswer, designAnswer};
 
 // The number of the sheet's first fault, or 0 (document 01: judging).
 #[no_mangle]
@@ -163,4 +165,53 @@ pub extern "C" fn huntelm_offset(
     let parts = offset.parts;
     answer[0] = parts;
     0
+}
+
+// Takes the components of float samples, I before Q, as the front end does (document 01: a float sample). Value n is made of float n.
+#[no_mangle]
+pub extern "C" fn huntelm_sample(floats: &[f32], values: &mut [i16]) -> u32
+    ensures { λ r. ⌜ record { number = r; places = now (values .exit) } ≡ sampleAnswer (now (floats .entry)) (now (values .entry)) ⌝ }
+{
+    if floats.len() % 2 != 0 {
+        return 10;
+    }
+    if values.len() < floats.len() {
+        return 11;
+    }
+    let mut n: usize = 0;
+    while n < floats.len() {
+        values[n] = input::component(floats[n]);
+        n += 1;
+    }
+    0
+}
+
+// Writes the sheet of a design to the first 17 places (document 01: design and judge together). The design comes as five rates and eight fields (rates.rt).
+#[no_mangle]
+pub extern "C" fn huntelm_design(
+    rates: &[f64],
+    fields: &[i64],
+    h: &[i32],
+    g: &[i32],
+    k: &[i32],
+    sheet: &mut [i64],
+) -> u32
+    ensures { λ r. ⌜ record { number = r; places = now (sheet .exit) } ≡ designAnswer (now (rates .entry)) (now (fields .entry)) (now (h .entry)) (now (g .entry)) (now (k .entry)) (now (sheet .entry)) ⌝ }
+{
+    let unread = rates::fault(rates, fields);
+    if unread != 0 {
+        return unread;
+    }
+    let designed = rates::design_of(rates, fields);
+    let verdict = designed.params(rates::gains_of(fields), h, g, k);
+    match verdict {
+        SheetVerdict::Refused(e) => number::of_sheet(e),
+        SheetVerdict::Accepted(p) => {
+            if sheet.len() < 17 {
+                return 11;
+            }
+            sheet::write(p, &mut *sheet);
+            0
+        }
+    }
 }

@@ -1,4 +1,6 @@
-// The number of a refusal (document 01: 1 to 13), 0 where nothing is refused. What else a refusal carries does not cross.
+// The number of a refusal (document 01: 1 to 17), 0 where nothing is refused. What else a refusal carries does not cross.
+use design::DesignError;
+use design::SheetError;
 use fixed::FrontendVerdict;
 use params::OffsetVerdict;
 use params::ParamError;
@@ -6,6 +8,7 @@ use params::Verdict;
 ghost use mathlib.Core.Path.{_≡_};
 ghost use Rattle.params.specs.Refusal.{errorRefusal, verdictRefusal};
 ghost use Rattle.params.specs.Offset.{offsetRefusal};
+ghost use Rattle.design.specs.Refusal.{designRefusal, sheetRefusal};
 ghost use Rattle.fixed.specs.Block.{frontendRefusal};
 
 fn of_error(e: ParamError) -> u32
@@ -60,5 +63,25 @@ pub(crate) fn of_offset(v: OffsetVerdict) -> u32
         OffsetVerdict::Accepted => 0,
         OffsetVerdict::Params(e) => of_error(e),
         OffsetVerdict::Period => 13,
+    }
+}
+
+fn of_design(e: DesignError) -> u32
+    ensures { λ r. ⌜ r ≡ designRefusal e .number ⌝ }
+{
+    match e {
+        DesignError::SamplesPerSymbol { sps: _ } => 14,
+        DesignError::Taps => 15,
+        DesignError::Bits => 16,
+        DesignError::Trim { trim: _ } => 17,
+    }
+}
+
+pub(crate) fn of_sheet(e: SheetError) -> u32
+    ensures { λ r. ⌜ r ≡ sheetRefusal e .number ⌝ }
+{
+    match e {
+        SheetError::Design(e) => of_design(e),
+        SheetError::Params(e) => of_error(e),
     }
 }

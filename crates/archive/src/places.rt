@@ -2,7 +2,7 @@
 // read from is looked at before.
 ghost use mathlib.Core.Path.{_≡_};
 ghost use lib.IntN.{natAbs};
-ghost use Rattle.archive.specs.Places.{at, u8 as kindU8, u32 as kindU32, i16 as kindI16, i32 as kindI32, i64 as kindI64, count, least as leastOf, most as mostOf, isKind, areKinds, KindAt};
+ghost use Rattle.archive.specs.Places.{at, u8 as kindU8, u32 as kindU32, i16 as kindI16, i32 as kindI32, i64 as kindI64, count, least as leastOf, most as mostOf, isKind, areKinds, placesNumber, KindAt};
 
 // The kinds of fields. A count is unsigned of 64 bits; a place takes the lower half of these.
 pub(crate) const U8: u8 = 0;
@@ -76,6 +76,19 @@ pub(crate) fn are_kinds(kinds: &[u8], places: &[i64]) -> bool
         n += 1;
     }
     true
+}
+
+// 18 for another number of places than of kinds, 19 for a number that is not one of its kind, and 0 for places that can be read.
+pub(crate) fn fault(kinds: &[u8], places: &[i64]) -> u32
+    ensures { λ r. ⌜ r ≡ placesNumber (now (kinds .entry)) (now (places .entry)) ⌝ }
+{
+    if places.len() != kinds.len() {
+        return 18;
+    }
+    if !are_kinds(kinds, places) {
+        return 19;
+    }
+    0
 }
 
 // ---- the number of a field, from the place that was looked at

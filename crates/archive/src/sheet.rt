@@ -1,8 +1,11 @@
 // A sheet as 17 places, its fields in the order in which document 01 lists them.
 use crate::places;
 use params::Params;
+ghost use Prim.Native.Nat.{_≤_};
 ghost use mathlib.Core.Path.{_≡_};
-ghost use Rattle.archive.specs.Sheet.{sheetKinds, sheetNumber, paramsOf};
+ghost use mathlib.Core.List.{_++_};
+ghost use lib.ListN.{length, drop};
+ghost use Rattle.archive.specs.Sheet.{sheetKinds, sheetNumber, paramsOf, sheetNumbers};
 
 // The types of the fields.
 fn kinds() -> [u8; 17]
@@ -33,14 +36,8 @@ fn kinds() -> [u8; 17]
 pub(crate) fn fault(sheet: &[i64]) -> u32
     ensures { λ r. ⌜ r ≡ sheetNumber (now (sheet .entry)) ⌝ }
 {
-    if sheet.len() != 17 {
-        return 18;
-    }
     let kinds = kinds();
-    if !places::are_kinds(&kinds, sheet) {
-        return 19;
-    }
-    0
+    places::fault(&kinds, sheet)
 }
 
 // The fields of a sheet that can be read.
@@ -67,4 +64,28 @@ pub(crate) fn params_of(sheet: &[i64]) -> Params
         q_shift: places::u8_at(sheet, 15),
         block_log2: places::u8_at(sheet, 16),
     }
+}
+
+// Writes the fields to the first 17 places.
+pub(crate) fn write(p: Params, sheet: &mut [i64])
+    requires { ⌜ 17 ≤ length (now sheet) ⌝ }
+    ensures { λ _. ⌜ now (sheet .exit) ≡ sheetNumbers p ++ drop 17 (now (sheet .entry)) ⌝ }
+{
+    sheet[0] = p.taps as i64;
+    sheet[1] = p.nco_step as i64;
+    sheet[2] = p.period_nominal as i64;
+    sheet[3] = p.period_min as i64;
+    sheet[4] = p.period_max as i64;
+    sheet[5] = p.ted_shift as i64;
+    sheet[6] = p.kp as i64;
+    sheet[7] = p.kp_shift as i64;
+    sheet[8] = p.ki as i64;
+    sheet[9] = p.ki_shift as i64;
+    sheet[10] = p.integrator_max as i64;
+    sheet[11] = p.agc_init as i64;
+    sheet[12] = p.agc_target as i64;
+    sheet[13] = p.agc_shift as i64;
+    sheet[14] = p.bits as i64;
+    sheet[15] = p.q_shift as i64;
+    sheet[16] = p.block_log2 as i64;
 }

@@ -14,14 +14,15 @@ pub struct Sample {
     pub q: i16,
 }
 
-fn component(x: f32) -> i16
+// One component by itself. It refuses nothing: what no 12 bits can hold goes to the nearer end, and a NaN to 0.
+pub fn component(x: f32) -> i16
     ensures { λ r. ⌜ r ≡ componentOf x ⌝ }
 {
     let scaled = std::num::f32_to_f64_with_nan(x * 2048.0);
     arith::clamp(floats::round_i64(scaled), -2048, 2047) as i16
 }
 
-// It refuses nothing: what no 12 bits can hold goes to the nearer end, and a NaN to 0.
+// Both components.
 pub fn input_sample(v: Complex32) -> Sample
     ensures { λ r. ⌜ r ≡ sampleOf v ⌝ }
 {

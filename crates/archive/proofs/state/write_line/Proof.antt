@@ -12,7 +12,8 @@ use Rattle.arith.proofs.Bits.{widened}
 use Rattle.fixed.specs.declared.Pair.{Pair}
 use Rattle.fixed.specs.Start.{noPair}
 use Rattle.archive.specs.State.{lineNumbers}
-use Rattle.archive.proofs.Twos.{paste-two, paste-all, widens-32}
+use Rattle.archive.proofs.Twos.{paste-two, paste-all}
+use Rattle.archive.proofs.Widths.{widens-32}
 use Rattle.archive.proofs.state.write_line.Statement.{statement}
 use Rattle.archive.proofs.state.write_line.Tie as tie
 

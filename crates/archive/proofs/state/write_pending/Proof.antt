@@ -14,7 +14,8 @@ use Rattle.arith.proofs.Bits.{widened}
 use Rattle.fixed.specs.declared.Pending.{Pending}
 use Rattle.fixed.specs.Start.{noPending}
 use Rattle.archive.specs.State.{pendingNumbers}
-use Rattle.archive.proofs.Twos.{paste-two, paste-all, widens-32}
+use Rattle.archive.proofs.Twos.{paste-two, paste-all}
+use Rattle.archive.proofs.Widths.{widens-32}
 use Rattle.archive.proofs.state.write_pending.Statement.{statement}
 use Rattle.archive.proofs.state.write_pending.Tie as tie
 
