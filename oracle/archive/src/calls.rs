@@ -1,6 +1,6 @@
 //! A call with all that it is lent, made through the archive and held against the rules; and the faults that such a call can have.
 
-use crate::lent::Lent;
+use crate::lent::{Lent, answered};
 use crate::rules;
 use crate::tally::Tally;
 use archive_calls::{SYMBOL, Sheet};
@@ -177,13 +177,5 @@ impl Call {
         if let Some(samples) = self.state.get_mut(9) {
             *samples = i64::MAX - (pairs + r.between(-2, 2)).max(0);
         }
-    }
-}
-
-/// Whether a call answered with these numbers in its first places, or with this refusal and nothing touched.
-fn answered<T: AsRef<[i64]>>(number: u32, places: &Lent, right: Result<T, u32>) -> bool {
-    match right {
-        Ok(numbers) => number == 0 && places.begins_with(numbers.as_ref()),
-        Err(right) => number == right && places.is_untouched(),
     }
 }

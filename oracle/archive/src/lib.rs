@@ -75,6 +75,26 @@ unsafe extern "C" {
         answer: *mut i64,
         answer_len: usize,
     ) -> u32;
+    fn huntelm_sample(
+        floats: *const f32,
+        floats_len: usize,
+        values: *mut i16,
+        values_len: usize,
+    ) -> u32;
+    fn huntelm_design(
+        rates: *const f64,
+        rates_len: usize,
+        fields: *const i64,
+        fields_len: usize,
+        h: *const i32,
+        h_len: usize,
+        g: *const i32,
+        g_len: usize,
+        k: *const i32,
+        k_len: usize,
+        sheet: *mut i64,
+        sheet_len: usize,
+    ) -> u32;
 }
 
 /// A sheet with its banks h, g and k, as the archive is lent it.
@@ -190,6 +210,49 @@ impl Sheet {
                 period,
                 answer.as_mut_ptr(),
                 answer.len(),
+            )
+        }
+    }
+}
+
+/// Writes the values of float samples' components; 0, or the number of a refusal.
+pub fn sample(floats: &[f32], values: &mut [i16]) -> u32 {
+    unsafe {
+        huntelm_sample(
+            floats.as_ptr(),
+            floats.len(),
+            values.as_mut_ptr(),
+            values.len(),
+        )
+    }
+}
+
+/// A design, as the archive is lent it: sample_rate, symbol_rate, carrier_offset, trim and agc_rms; taps, bits, block_log2, kp, kp_shift, ki, ki_shift
+/// and q_shift; and the banks h, g and k.
+pub struct Design {
+    pub rates: Vec<f64>,
+    pub fields: Vec<i64>,
+    pub banks: [Vec<i32>; 3],
+}
+
+impl Design {
+    /// Writes the fields of its sheet; 0, or the number of a refusal.
+    pub fn sheet(&self, sheet: &mut [i64]) -> u32 {
+        let [h, g, k] = &self.banks;
+        unsafe {
+            huntelm_design(
+                self.rates.as_ptr(),
+                self.rates.len(),
+                self.fields.as_ptr(),
+                self.fields.len(),
+                h.as_ptr(),
+                h.len(),
+                g.as_ptr(),
+                g.len(),
+                k.as_ptr(),
+                k.len(),
+                sheet.as_mut_ptr(),
+                sheet.len(),
             )
         }
     }

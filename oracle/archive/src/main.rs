@@ -2,6 +2,7 @@
 //! All places that a call is lent to write are looked at after it, and so are others around them.
 
 mod calls;
+mod floats;
 mod lent;
 mod rules;
 mod run;
@@ -22,8 +23,15 @@ fn main() -> ExitCode {
     };
     let mut tally = Tally::default();
     let mut r = Random::new(seed);
+    let outstanding = oracle::floats::outstanding();
     while tally.samples < samples {
         one_run(&mut tally, &mut r);
+        for _ in 0..20 {
+            floats::samples(&mut tally, &mut r, &outstanding);
+        }
+        for _ in 0..3 {
+            floats::designs(&mut tally, &mut r);
+        }
     }
     tally.tell();
     ExitCode::SUCCESS

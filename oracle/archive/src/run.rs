@@ -23,7 +23,7 @@ pub struct Run<'a> {
     sheet: Sheet,
     front: Frontend,
     symbols: Vec<Symbol>,
-    state: Lent,
+    state: Lent<i64>,
     tally: &'a mut Tally,
     r: &'a mut Random,
 }
