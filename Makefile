@@ -1,8 +1,9 @@
 # make run       the main job, on the stored input
 # make test      the gate: proofs, must-fail edits and programs, from nothing
-# make cases     runs the symbol program on 689 small inputs, refused and malformed ones among them
+# make symbols   proves and links the symbol program, target/bin/symbols
+# make cases     runs the symbol program on small inputs, refused and malformed ones among them
 # make oracle    compares this code with the Rust front end of isdb-rs
-# make bench     measures both in one run and prints how many times as fast this one is
+# make bench     measures both in one run and prints how many times as fast this one is; with WRITE=1 it also writes docs/BENCH.md
 # make archive   writes target/staticlib/libarchive.a, for C and Rust to link
 # make examples  runs an example in C and one in Rust on a recording, and compares their lists with the stored one
 # make bindings  tests the C header and the Rust bindings
@@ -12,7 +13,9 @@
 RT ?= rt
 ISDB_RS ?= ../shared/docs/src
 
-.PHONY: run test cases oracle archive bench examples bindings clean kit
+.PHONY: run test symbols cases oracle archive bench examples bindings clean kit
+# The kit writes to one folder, so one thing is made after another.
+.NOTPARALLEL:
 
 run: kit
 	@echo "Proving and linking the symbol program, the replay programs and what they stand on (some minutes from nothing) .."
@@ -29,9 +32,12 @@ test: kit
 	@$(RT) fmt --check
 	@$(RT) ci
 
-cases: kit
+symbols: kit
+	@echo "Proving and linking the symbol program and what it stands on, as target/bin/symbols .."
 	@mkdir -p target
-	@$(RT) check symbols >target/cases.out 2>&1 || { tail -n 20 target/cases.out; exit 1; }
+	@$(RT) check symbols >target/symbols.out 2>&1 || { tail -n 20 target/symbols.out; exit 1; }
+
+cases: symbols
 	@sh tests/symbols.sh target/bin/symbols
 
 oracle: kit
@@ -42,8 +48,8 @@ archive: kit
 	@mkdir -p target
 	@$(RT) staticlib archive >target/archive.out 2>&1 || { tail -n 20 target/archive.out; exit 1; }
 
-bench: archive
-	@cd bench && ISDB_RS='$(ISDB_RS)' cargo run --offline --quiet --release
+bench: archive symbols
+	@RT='$(RT)' ISDB_RS='$(ISDB_RS)' WRITE='$(WRITE)' sh bench/measure.sh
 
 examples: archive
 	@CC='$(CC)' sh examples/compare.sh
@@ -62,7 +68,7 @@ bindings: archive
 	@cd bindings/rust && HUNTELM_ARCHIVE='$(CURDIR)/target/staticlib' cargo test --offline --quiet
 
 clean:
-	rm -rf target oracle/target bench/target bindings/rust/target
+	rm -rf target oracle/target oracle/archive/target bench/target bindings/rust/target
 
 kit:
 	@command -v $(RT) >/dev/null || { echo "rt, the command of the Rattle kit, is not on the PATH. Install the kit, or say where it is: make RT=/path/to/rt"; exit 1; }

@@ -25,8 +25,10 @@ echo "oracle: building isdb-rs, and once more with every overflow a panic .."
 for profile in release checked; do
     (cd oracle && cargo build --offline --quiet --profile $profile)
 done
-echo "oracle: proving and linking the replay programs .."
-$RT check replay_leaves replay_calls replay_floats >"$work/check.out" 2>&1 || { tail -n 20 "$work/check.out"; exit 1; }
+echo "oracle: proving and linking the replay programs, the symbol program and the archive .."
+$RT check replay_leaves replay_calls replay_floats symbols >"$work/check.out" 2>&1 || { tail -n 20 "$work/check.out"; exit 1; }
+$RT staticlib archive >"$work/archive.out" 2>&1 || { tail -n 20 "$work/archive.out"; exit 1; }
+(cd oracle/archive && cargo build --offline --quiet --release)
 rust=oracle/target/release/oracle
 checked=oracle/target/checked/oracle
 
@@ -38,6 +40,10 @@ count() { # NAME COMPARED DIFFERED
     compared=$((compared + $2)) differed=$((differed + $3))
 }
 
+differences() { # LINE
+    echo "$1" | sed 's/.*compared, \([0-9]*\) differ.*/\1/'
+}
+
 # What the driver writes goes through a replay program. Where one of the two fails, fewer answers were compared than should be, so nothing counts.
 replayed() { # NAME PROGRAM WORDS-FOR-THE-DRIVER
     name=$1 program=$2
@@ -45,7 +51,16 @@ replayed() { # NAME PROGRAM WORDS-FOR-THE-DRIVER
     rm -f "$work/failed"
     line=$({ $checked "$@" || : >"$work/failed"; } | "target/bin/$program") || : >"$work/failed"
     [ ! -e "$work/failed" ] || { echo "oracle: $name: 'oracle $*' or $program failed"; exit 1; }
-    count "$name" "${line%% *}" "$(echo "$line" | sed 's/.*compared, \([0-9]*\) differ.*/\1/')"
+    count "$name" "${line%% *}" "$(differences "$line")"
+}
+
+# A program that compares by itself says so in one line: how many were compared, how many differed, and behind a semicolon of what kinds they were.
+told() { # NAME PROGRAM-AND-WORDS
+    name=$1
+    shift
+    line=$("$@") || { echo "oracle: $name: '$*' failed"; exit 1; }
+    count "$name" "${line%% *}" "$(differences "$line")"
+    echo "oracle:   ${line#*; }"
 }
 
 # The leaves: the whole cosine wheel and random calls of the arithmetic.
@@ -75,6 +90,13 @@ replayed "float samples, one f32 in $STEP and all that stand out" replay_floats 
 replayed "registers of designs" replay_floats floats designs 1 $((52000 * SCALE))
 replayed "sheets of designs, judged" replay_floats floats sheets 1 $((4000 * SCALE))
 replayed "sheets of designs, judged, few taps" replay_floats floats small 1 $((10000 * SCALE))
+
+# The symbol program: planned inputs with every wrong line and number in every part, and random ones, most of them spoiled. The driver runs it and reads what it prints.
+rm -f "$work/differs"
+told "the symbol program" $checked against target/bin/symbols 1 $((5000 * SCALE)) "$work/differs"
+
+# The archive, linked beside isdb-rs: runs in blocks of all sizes, states that are changed after them, and calls between them in which something is wrong.
+told "calls through the archive" oracle/archive/target/release/compare 1 $((20000000 * SCALE))
 
 # The Rust's two builds against each other: where they differ an overflow wrapped, and its answers are no measure.
 same=0 other=0

@@ -40,6 +40,11 @@ with() {
     awk -v n="$1" -v t="$2" 'NR == n { print t; next } { print }' "$dir/whole"
 }
 
+# put N VALUE: the sheet's line with another field in the place of its N-th
+put() {
+    echo "$sheet" | awk -F, -v OFS=, -v n="$1" -v v="$2" '{ $n = v; print }'
+}
+
 # ---- a case
 
 # expect NAME TEXT: the input is in $dir/in; the output has to be TEXT with a line feed, and nothing on standard error
@@ -126,7 +131,7 @@ for ends in '4294967296 -1' '2147483648 -2147483649' '4294967296 -1' '4294967296
     '2147483648 -2147483649' '4294967296 -1' '4294967296 -1' '256 -1' '256 -1' '256 -1' '256 -1'; do
     number=$((number + 1))
     for value in $ends 18446744073709551616 184467440737095516160000000000000000000004 -99999999999999999999999; do
-        refused 19 1 "$(echo "$sheet" | awk -F, -v OFS=, -v n=$number -v v="$value" '{ $n = v; print }')"
+        refused 19 1 "$(put $number "$value")"
     done
     refused 18 1 "$(echo "$sheet" | awk -F, -v OFS=, -v n=$number '{ $1 = 4294967296; $n = "x"; print }')"
 done
@@ -160,33 +165,57 @@ for line in 2 66 130; do
     with $((line + 63)) 131071,1,0,0 >"$dir/in"
     expect "sum too large at $((line + 63))" refused,4,0
 done
-{ echo "10${sheet#4}"; repeat 64 1,0,0,0,0,0,0,0,0,0; repeat 128 0,0,0,0,0,0,0,0,0,0; } >"$dir/in"
-expect 'h outside the detector' refused,5,0
-judged 6 4,0,33554432,16777216,34225520,8,0,0,0,0,335544,262144,16384,4,8,6,12
-judged 6 4,0,33554432,32883343,67108864,8,0,0,0,0,335544,262144,16384,4,8,6,12
-judged 7 4,0,33554432,32883343,34225520,8,0,0,0,0,335544,262144,16384,4,9,6,12
-judged 7 4,0,33554432,32883343,34225520,8,0,0,0,0,-1,262144,16384,4,8,6,12
-judged 8 4,0,33554432,32883343,34225520,8,0,0,0,0,335544,262144,16384,64,8,6,12
+# Ten taps: the first and the last are none of the detector's, so h and g have to be 0 there, and k need not be.
+none=0,0,0,0,0,0,0,0,0,0
+for row in 1,0,0,0,0,0,0,0,0,0 0,0,0,0,0,0,0,0,0,-1; do
+    { echo "10${sheet#4}"; echo $row; repeat 191 $none; } >"$dir/in"
+    expect "first row of h outside the detector: $row" refused,5,0
+    { echo "10${sheet#4}"; repeat 127 $none; echo $row; repeat 64 $none; } >"$dir/in"
+    expect "last row of g outside the detector: $row" refused,5,0
+    { echo "10${sheet#4}"; repeat 191 $none; echo $row; } >"$dir/in"
+    expect "last row of k outside the detector: $row" end,0,0,0
+done
+
+for period in '4 16777216' '4 33554433' '5 67108864' '5 33554431' '3 32883342' '3 34225521'; do
+    judged 6 "$(put $period)"
+done
+# Each field of 7 with the numbers next to its range, and then those at its ends.
+for field in '15 1 9' '16 16' '17 7 16' '12 16777216' '11 -1 4194304' '6 31' '8 41' '10 41'; do
+    set -- $field
+    place=$1
+    shift
+    for value; do
+        judged 7 "$(put "$place" "$value")"
+    done
+done
+for field in '15 2 8' '16 0 15' '17 8 15' '12 0 16777215' '11 0 4194303' '6 0 30' '8 0 40' '10 0 40' '14 0 63'; do
+    set -- $field
+    place=$1
+    shift
+    for value; do
+        with 1 "$(put "$place" "$value")" | head -n 193 >"$dir/in"
+        expect "field $place at $value" end,0,0,0
+    done
+done
+judged 8 "$(put 14 64)"
+judged 8 "$(put 14 255)"
 with 1 4,0,33554432,32883343,34225520,8,0,0,0,0,335544,262144,16384,64,8,6,12 | awk 'NR == 194 { print "x"; next } { print }' >"$dir/in"
 expect 'judging before line 194' refused,8,0
 
-# ---- 20, and a last line without a line feed: the input cut in its first lines and around its pairs
+# ---- 20, and a last line without a line feed: the whole input, cut at every byte
 
-# cut N: the first N bytes
+# cut_at N LINES END: the first N bytes, which have so many whole lines, the last of which ends at byte END
 cut_at() {
-    dd if="$dir/whole" bs=1 count="$1" >"$dir/in" 2>/dev/null
-    lines=$(wc -l <"$dir/in")
-    lines=$((lines))
-    if [ "$1" -eq 0 ] || [ "$(tail -c 1 "$dir/in" | tr '\n' x)" = x ]; then ended=1; else ended=0; fi
+    if [ "$1" -eq 0 ]; then : >"$dir/in"; else dd if="$dir/whole" bs="$1" count=1 >"$dir/in" 2>/dev/null; fi
     shown=
-    if [ $lines -gt 193 ]; then shown="$one
+    if [ "$2" -gt 193 ]; then shown="$one
 "; fi
-    if [ $lines -gt 195 ]; then shown="$shown$two
+    if [ "$2" -gt 195 ]; then shown="$shown$two
 "; fi
-    if [ $ended -eq 0 ]; then last="refused,18,$((lines + 1))"
-    elif [ $lines -lt 193 ]; then last="refused,20,$((lines + 1))"
+    if [ "$1" -ne "$3" ]; then last="refused,18,$(($2 + 1))"
+    elif [ "$2" -lt 193 ]; then last="refused,20,$(($2 + 1))"
     else
-        case $lines in
+        case $2 in
         193) last=end,0,0,0 ;;
         194) last=end,1,1,16777216 ;;
         195) last=end,2,1,0 ;;
@@ -195,18 +224,18 @@ cut_at() {
     fi
     expect "cut at byte $1" "$shown$last"
 }
-size=$(wc -c <"$dir/whole")
-size=$((size))
+lines=0
 n=0
-while [ $n -le 130 ]; do
-    cut_at $n
-    n=$((n + 1))
+end=0
+for next in $(awk '{ e += length($0) + 1; print e }' "$dir/whole"); do
+    while [ $n -lt "$next" ]; do
+        cut_at $n $lines $end
+        n=$((n + 1))
+    done
+    lines=$((lines + 1))
+    end=$next
 done
-n=$((size - 60))
-while [ $n -le $size ]; do
-    cut_at $n
-    n=$((n + 1))
-done
+cut_at $n $lines $end
 for lines in 1 2 64 65 66 128 129 130 191 192; do
     head -n $lines "$dir/whole" >"$dir/in"
     expect "$lines lines" "refused,20,$((lines + 1))"
@@ -218,10 +247,14 @@ for line in 1 2 193 194; do
     { head -n $((line - 1)) "$dir/whole"; long 1025 1; echo; } >"$dir/in"
     expect "1,025 bytes at line $line" "refused,18,$line"
 done
-{ cat "$dir/head"; printf 1,; long 1022 9; echo; } >"$dir/in"
-expect '1,024 bytes that are a pair in form' refused,19,194
-{ cat "$dir/head"; printf 1,; long 1023 9; echo; } >"$dir/in"
-expect '1,025 bytes that would be one' refused,18,194
+# A line of 1,024 bytes is read: right in form, it is refused for its last number. With one digit more it is too long.
+for part in '1 32 1,1,1,1,1,1,1,1,1,1,1,1,1,1,1,1,' '2 6 1,1,1,' '193 6 1,1,1,' '194 2 1,'; do
+    set -- $part
+    { head -n $(($1 - 1)) "$dir/whole"; printf %s "$3"; long $((1024 - $2)) 9; echo; } >"$dir/in"
+    expect "1,024 bytes that are right in form at line $1" "refused,19,$1"
+    { head -n $(($1 - 1)) "$dir/whole"; printf %s "$3"; long $((1025 - $2)) 9; echo; } >"$dir/in"
+    expect "1,025 bytes that would be at line $1" "refused,18,$1"
+done
 # A line that goes on for 20 MB is refused like any that is too long. It has an end here, so that a program that kept it could not fill the disk.
 for line in 1 2 194; do
     { head -n $((line - 1)) "$dir/whole"; dd if=/dev/zero bs=100000 count=200 2>/dev/null | tr '\000' 1; } | "$program" 2>&1 | head -n 2 | cut -c 1-80 >"$dir/got"
@@ -256,6 +289,14 @@ for pairs in 1023 1024 1025 2048 2049; do
     "$program" <"$dir/in2" >"$dir/got"
     same "a refusal after $pairs pairs" want.symbols
 done
+
+# ---- the memory is the same however long the input is: 12 MB of pairs, with 8 MB for the program and the C library together
+
+if (ulimit -v 8000) 2>/dev/null; then
+    { cat "$dir/head"; repeat 900000 -32768,-32768; } | (ulimit -v 8000; exec "$program") | tail -n 1 >"$dir/got"
+    echo end,900000,450000,0 >"$dir/want"
+    same 'a long input in little memory' want
+fi
 
 # ---- the system fails: a message, and no last line; a reader that has gone: nothing
 

@@ -1,21 +1,39 @@
 //! `make bench`: this front end beside the Rust one, in one run on the same inputs. What counts is the ratio, since times alone mean
 //! nothing on a shared machine; each figure is the least of several rounds, in which the two take turns.
 
-mod archive;
+mod programs;
 
-use archive::{STATE, SYMBOL, Sheet};
+use archive_calls::{STATE, SYMBOL, Sheet};
 use isdb_frontend::fixed::{Frontend, Symbol};
 use isdb_frontend::params::{Design, Params};
+use oracle::sheet::Sheet as Fields;
+use programs::Programs;
 use std::hint::black_box;
+use std::io;
 use std::time::{Duration, Instant};
 
 /// Rounds of each measurement, and pairs in a round.
 const ROUNDS: usize = 9;
 const PAIRS: usize = 1 << 18;
 
-fn main() {
-    println!("ns a sample pair, ISDB-S at 40 MHz: isdb-rs, this front end, and how many times as fast it is");
-    println!("{:>5} {:>7} {:>9} {:>9} {:>7}", "taps", "block", "isdb-rs", "here", "ratio");
+fn main() -> io::Result<()> {
+    let words: Vec<String> = std::env::args().skip(1).collect();
+    let [ours, theirs, input] = &words[..] else {
+        let usage = "bench SYMBOLS ORACLE INPUT: the two programs, and a file for what they read";
+        return Err(io::Error::other(usage));
+    };
+    let programs = Programs {
+        ours,
+        theirs,
+        input,
+    };
+    println!(
+        "ns a sample pair, ISDB-S at 40 MHz: isdb-rs, this front end, and how many times as fast it is"
+    );
+    println!(
+        "{:>5} {:>7} {:>9} {:>9} {:>7}",
+        "taps", "block", "isdb-rs", "here", "ratio"
+    );
     for taps in [8, 32, 64] {
         for block in [4096, 64, 1] {
             let (theirs, ours) = block_times(&params(taps), block);
@@ -27,10 +45,19 @@ fn main() {
         let (theirs, ours) = judge_times(&params(taps));
         row(taps, "judge", theirs / 1000.0, ours / 1000.0);
     }
+    println!(
+        "ms for a million pairs, text in and text out: a plain program over isdb-rs, and the symbol program"
+    );
+    let (theirs, ours) = programs.times(&params(32))?;
+    row(32, "text", theirs, ours);
+    Ok(())
 }
 
 fn row(taps: usize, what: &str, theirs: f64, ours: f64) {
-    println!("{taps:>5} {what:>7} {theirs:>9.2} {ours:>9.2} {:>7.2}", theirs / ours);
+    println!(
+        "{taps:>5} {what:>7} {theirs:>9.2} {ours:>9.2} {:>7.2}",
+        theirs / ours
+    );
 }
 
 fn params(taps: usize) -> Params {
@@ -54,18 +81,24 @@ fn noise(pairs: usize) -> Vec<i16> {
         .collect()
 }
 
-/// The least time of both in turns, in nanoseconds a unit.
-fn least(units: usize, mut theirs: impl FnMut(), mut ours: impl FnMut()) -> (f64, f64) {
+/// The least time of both in turns.
+fn least(rounds: usize, mut theirs: impl FnMut(), mut ours: impl FnMut()) -> (Duration, Duration) {
     let timed = |work: &mut dyn FnMut()| {
         let start = Instant::now();
         work();
         start.elapsed()
     };
     let (mut a, mut b) = (Duration::MAX, Duration::MAX);
-    for _ in 0..ROUNDS {
+    for _ in 0..rounds {
         a = a.min(timed(&mut theirs));
         b = b.min(timed(&mut ours));
     }
+    (a, b)
+}
+
+/// The same in nanoseconds a unit.
+fn least_each(units: usize, theirs: impl FnMut(), ours: impl FnMut()) -> (f64, f64) {
+    let (a, b) = least(ROUNDS, theirs, ours);
     let each = |d: Duration| d.as_secs_f64() * 1e9 / units as f64;
     (each(a), each(b))
 }
@@ -76,11 +109,11 @@ fn block_times(p: &Params, block: usize) -> (f64, f64) {
     let samples: Vec<[i16; 2]> = values.chunks(2).map(|v| [v[0], v[1]]).collect();
     let mut front = Frontend::new(p.clone()).expect("an accepted sheet");
     let mut symbols: Vec<Symbol> = Vec::with_capacity(block);
-    let sheet = Sheet::new(p);
+    let sheet = Sheet::from(&Fields::designed(p));
     let mut state = [0; STATE];
     assert_eq!(sheet.start(&mut state), 0);
     let mut out = vec![0; SYMBOL * block];
-    least(
+    least_each(
         pairs,
         || {
             for x in samples.chunks(block) {
@@ -101,8 +134,8 @@ fn block_times(p: &Params, block: usize) -> (f64, f64) {
 
 fn judge_times(p: &Params) -> (f64, f64) {
     const TIMES: usize = 200;
-    let sheet = Sheet::new(p);
-    least(
+    let sheet = Sheet::from(&Fields::designed(p));
+    least_each(
         TIMES,
         || {
             for _ in 0..TIMES {

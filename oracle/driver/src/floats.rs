@@ -56,7 +56,7 @@ fn some_samples(r: &mut Random, count: u64, output: &mut impl Write) -> io::Resu
 
 /// The bit patterns within three of each tie and of each whole number, those around zero, the subnormal numbers' ends,
 /// the largest numbers, the infinities and NaN.
-fn outstanding() -> Vec<u32> {
+pub fn outstanding() -> Vec<u32> {
     let mut near = vec![
         0,
         f32::MIN_POSITIVE.to_bits(),
@@ -82,11 +82,13 @@ fn outstanding() -> Vec<u32> {
 }
 
 fn sample(re: u32, im: u32, output: &mut impl Write) -> io::Result<()> {
-    let [i, q] = isdb_frontend::input_sample(Complex32 {
-        re: f32::from_bits(re),
-        im: f32::from_bits(im),
-    });
+    let [i, q] = sample_of(f32::from_bits(re), f32::from_bits(im));
     writeln!(output, "0,{re},{im},{i},{q}")
+}
+
+/// What isdb-rs makes of a float sample.
+pub fn sample_of(re: f32, im: f32) -> [i16; 2] {
+    isdb_frontend::input_sample(Complex32 { re, im })
 }
 
 // ---- designs
@@ -119,7 +121,7 @@ fn told(unnumbered: u64) {
 
 /// The answer of isdb-rs. Where the loop's gain is refused, a bandwidth that suits the level may do: no register
 /// depends on it.
-fn answer(d: &mut Design) -> Answer {
+pub fn answer(d: &mut Design) -> Answer {
     match Answer::of(d) {
         Answer::LoopGain => {
             d.loop_bandwidth = 2e-4 * (d.agc_rms / 0.25).powi(2);
@@ -329,9 +331,9 @@ fn parts(s: &Sheet) -> [String; 4] {
     [joined(h), joined(g), joined(k), gains]
 }
 
-/// What isdb-rs says of the sheet that has a design's registers, and another one's banks and gains.
-fn judged(p: &Params, s: &Sheet) -> String {
-    let sheet = Sheet {
+/// The sheet that has a design's registers, and another one's banks and gains.
+pub fn sheet_of(p: &Params, s: &Sheet) -> Sheet {
+    Sheet {
         kp: s.kp,
         kp_shift: s.kp_shift,
         ki: s.ki,
@@ -339,7 +341,12 @@ fn judged(p: &Params, s: &Sheet) -> String {
         q_shift: s.q_shift,
         banks: s.banks.clone(),
         ..Sheet::designed(p)
-    };
+    }
+}
+
+/// What isdb-rs says of it.
+fn judged(p: &Params, s: &Sheet) -> String {
+    let sheet = sheet_of(p, s);
     match &sheet.judge()[..] {
         [] => format!("0,{}", joined(&sheet.fields())),
         refusal => joined(refusal),
@@ -347,7 +354,7 @@ fn judged(p: &Params, s: &Sheet) -> String {
 }
 
 /// A design, as a rule of the sheet's taps: the judge would else say little.
-fn design_for(r: &mut Random, sheet: &Sheet) -> Design {
+pub fn design_for(r: &mut Random, sheet: &Sheet) -> Design {
     let mut d = match r.below(4) {
         0 => special(r),
         _ => plausible(r),

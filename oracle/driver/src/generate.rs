@@ -2,7 +2,7 @@
 //! around every boundary.
 
 use crate::random::Random;
-use crate::sheet::{Sheet, joined};
+use crate::sheet::Sheet;
 use crate::{design, usage};
 use isdb_frontend::params::{Design, PHASES, Params, TED_TAPS, ted_tap};
 use isdb_frontend::tables::rrc;
@@ -64,12 +64,7 @@ pub fn recording(kind: &str, seed: u64, pairs: u64, output: &mut impl Write) -> 
         "isdb-s" => isdb_s(),
         _ => return Err(usage(&format!("{kind} is no kind of recording"))),
     };
-    writeln!(output, "{}", joined(&sheet.fields()))?;
-    for bank in &sheet.banks {
-        for row in bank.chunks(sheet.taps as usize) {
-            writeln!(output, "{}", joined(row))?;
-        }
-    }
+    sheet.write_rows(output)?;
     for _ in 0..pairs {
         let [i, q] = samples.next(&mut r);
         writeln!(output, "{i},{q}")?;

@@ -1,19 +1,7 @@
 //! Asks the Rust front end of isdb-rs, text in and text out. README.md beside this folder has the formats.
 
-mod calls;
-mod design;
-mod floats;
-mod generate;
-mod leaves;
-mod path;
-mod program;
-mod random;
-mod reading;
-mod rows;
-mod sheet;
-mod state;
-mod states;
-
+use oracle::{against, calls, design, floats, generate, leaves, path, program, sheet, states};
+use oracle::{number, usage};
 use std::io::{self, BufRead, BufWriter, Write};
 use std::process::ExitCode;
 
@@ -38,6 +26,9 @@ oracle: asks the Rust front end of isdb-rs
   oracle floats KIND SEED COUNT       answers on floats, for replay_floats; KIND is samples, designs, sheets or
                                       small, sheets of few taps
   oracle recording KIND SEED PAIRS    an input of the symbol program
+  oracle against PROGRAM SEED COUNT FILE
+                                      runs the symbol program on all planned inputs and COUNT random ones, and holds
+                                      what it prints against `symbols`; FILE keeps the first input that differs
   oracle designs SEED COUNT           designs for `design`
 
 KIND is designed, extreme, small, refused or mixed for sheets, and designed, extreme or isdb-s for a recording.
@@ -77,6 +68,9 @@ fn run(words: &[&str], input: impl BufRead, output: &mut impl Write) -> io::Resu
         ["recording", kind, seed, pairs] => {
             generate::recording(kind, number(seed)?, number(pairs)?, output)
         }
+        ["against", program, seed, count, file] => {
+            against::run(program, number(seed)?, number(count)?, file, output)
+        }
         ["designs", seed, count] => generate::designs(number(seed)?, number(count)?, output),
         _ => Err(usage(USAGE)),
     }
@@ -87,14 +81,4 @@ fn wheel(output: &mut impl Write) -> io::Result<()> {
         writeln!(output, "{k},{w}")?;
     }
     Ok(())
-}
-
-/// A number on the command line.
-pub fn number(word: &str) -> io::Result<u64> {
-    word.parse()
-        .map_err(|_| usage(&format!("{word} is not a number\n\n{USAGE}")))
-}
-
-pub fn usage(text: &str) -> io::Error {
-    io::Error::new(io::ErrorKind::InvalidInput, text.to_string())
 }

@@ -7,6 +7,8 @@ impl Random {
         Self(seed)
     }
 
+    // It has no end, so an iterator's `Option` would only be in the way.
+    #[allow(clippy::should_implement_trait)]
     pub fn next(&mut self) -> u64 {
         self.0 = self.0.wrapping_add(0x9e37_79b9_7f4a_7c15);
         let mut z = self.0;

@@ -182,6 +182,17 @@ impl Sheet {
         Ok(())
     }
 
+    /// The first lines of the symbol program's input: the fields, then each bank with a line for each of its rows.
+    pub fn write_rows(&self, output: &mut impl Write) -> io::Result<()> {
+        writeln!(output, "{}", joined(&self.fields()))?;
+        for bank in &self.banks {
+            for row in bank.chunks((self.taps as usize).max(1)) {
+                writeln!(output, "{}", joined(row))?;
+            }
+        }
+        Ok(())
+    }
+
     fn read(lines: &[String]) -> io::Result<Self> {
         let fields: Vec<i64> = numbers(&lines[0])?;
         if fields.len() != 17

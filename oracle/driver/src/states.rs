@@ -80,6 +80,44 @@ fn any_state(r: &mut Random, sheet: &Sheet) -> State {
     state
 }
 
+/// The state with some of its parts changed, each to anything that refusal 9 lets pass. What is bound together changes together.
+pub fn changed(r: &mut Random, sheet: &Sheet, state: &State) -> State {
+    let mut state = state.clone();
+    let other = good_state(r, sheet);
+    for part in 0..10 {
+        if r.one_in(2) {
+            continue;
+        }
+        match part {
+            0 => state.nco = other.nco,
+            1 => state.t_acc = other.t_acc,
+            2 => state.v = other.v,
+            3 => state.period = other.period,
+            4 => state.gain_acc = other.gain_acc,
+            5 => {
+                state.symbols = other.symbols;
+                state.samples = other.samples;
+                state.waiting = other.waiting;
+            }
+            6 => state.head = other.head,
+            7 => state.oldest = other.oldest,
+            8 => exchange(r, &mut state.line, &other.line),
+            _ => exchange(r, &mut state.errors, &other.errors),
+        }
+    }
+    state
+}
+
+/// Some of the pairs, or all of them.
+fn exchange(r: &mut Random, pairs: &mut [[i128; 2]], other: &[[i128; 2]]) {
+    let all = r.one_in(2);
+    for (pair, other) in pairs.iter_mut().zip(other) {
+        if all || r.one_in(4) {
+            *pair = *other;
+        }
+    }
+}
+
 /// A state with every register anywhere within its bounds, at one of them, or next to it.
 fn good_state(r: &mut Random, sheet: &Sheet) -> State {
     let most = i64::from(sheet.integrator_max) << 16;
@@ -142,7 +180,7 @@ fn counts(r: &mut Random) -> (i128, i128) {
 }
 
 /// Breaks one bound of a state, next to it or far away.
-fn spoil(r: &mut Random, sheet: &Sheet, state: &mut State) {
+pub fn spoil(r: &mut Random, sheet: &Sheet, state: &mut State) {
     let far: i128 = r.pick(&[i64::MAX as u64, 1 << 63, u64::MAX]).into();
     let signed: i128 = r.pick(&[i64::MIN, i64::MAX]).into();
     let most = i128::from(sheet.integrator_max) << 16;

@@ -1,0 +1,49 @@
+//! `compare SEED SAMPLES`: this front end through the archive beside isdb-rs, on runs of so many samples in all, with no text in between.
+//! All places that a call is lent to write are looked at after it, and so are others around them.
+
+mod calls;
+mod floats;
+mod lent;
+mod rules;
+mod run;
+mod tally;
+
+use oracle::generate;
+use oracle::random::Random;
+use run::Run;
+use std::process::ExitCode;
+use tally::Tally;
+
+fn main() -> ExitCode {
+    let words: Vec<String> = std::env::args().skip(1).collect();
+    let numbers: Vec<u64> = words.iter().filter_map(|w| w.parse().ok()).collect();
+    let [seed, samples] = numbers[..] else {
+        eprintln!("compare SEED SAMPLES");
+        return ExitCode::FAILURE;
+    };
+    let mut tally = Tally::default();
+    let mut r = Random::new(seed);
+    let outstanding = oracle::floats::outstanding();
+    while tally.samples < samples {
+        one_run(&mut tally, &mut r);
+        for _ in 0..20 {
+            floats::samples(&mut tally, &mut r, &outstanding);
+        }
+        for _ in 0..3 {
+            floats::designs(&mut tally, &mut r);
+        }
+    }
+    tally.tell();
+    ExitCode::SUCCESS
+}
+
+/// A sheet, a run on it, and changed states after it.
+fn one_run(tally: &mut Tally, r: &mut Random) {
+    let kind = r.pick(&["designed", "designed", "extreme", "small"]);
+    let (fields, mut samples) =
+        generate::sheet_with_samples(kind, r).expect("a kind of sheet that there is");
+    let pairs = r.pick(&[100, 2000, 10_000, 30_000]);
+    let mut run = Run::start(&fields, tally, r);
+    run.go_on(pairs, &mut samples);
+    run.change();
+}

@@ -1,0 +1,116 @@
+//! What a call of the archive is to answer, whatever it is lent: the reading of document 01, behind the archive's own rules for places
+//! (crates/archive). A sheet that cannot be read is 18 or 19, then come 1 to 8; places that are those of no state are 9.
+
+use crate::calls::Call;
+use archive_calls::{STATE, SYMBOL, Sheet};
+use oracle::reading::Reading;
+use oracle::sheet::{FIELDS, Sheet as Fields};
+use oracle::state::State;
+
+/// The number of a refusal.
+type Number = u32;
+
+/// The sheet that a call is lent, where it is an accepted one.
+pub fn accepted(sheet: &Sheet) -> Result<Fields, Number> {
+    let fields = &sheet.fields;
+    if fields.len() != FIELDS.len() {
+        return Err(18);
+    }
+    let within = |(v, (low, high)): (&i64, (i64, i64))| (low..=high).contains(v);
+    if !fields.iter().zip(FIELDS).all(within) {
+        return Err(19);
+    }
+    let mut read = Fields::of(fields);
+    // isdb-rs takes the taps from a bank and tells its length row by row; document 01 tells both before all else
+    if !read.taps.is_multiple_of(2) || !(4..=64).contains(&read.taps) {
+        return Err(1);
+    }
+    let long = 64 * read.taps as usize;
+    if sheet.banks.iter().any(|bank| bank.len() != long) {
+        return Err(2);
+    }
+    read.banks = sheet.banks.clone();
+    match read.judge().first() {
+        Some(number) => Err(*number as Number),
+        None => Ok(read),
+    }
+}
+
+/// The state that places say, where each is within the type of its field.
+pub fn state_of(places: &[i64]) -> Option<State> {
+    const U32: (i64, i64) = (0, u32::MAX as i64);
+    const I64: (i64, i64) = (i64::MIN, i64::MAX);
+    const COUNT: (i64, i64) = (0, i64::MAX);
+    const I32: (i64, i64) = (i32::MIN as i64, i32::MAX as i64);
+    let own = [U32, I64, I64, U32, U32, COUNT, COUNT, COUNT, COUNT, COUNT];
+    let types = own.into_iter().chain([I32; STATE - 10]);
+    let within = |(v, (low, high)): (&i64, (i64, i64))| (low..=high).contains(v);
+    if places.len() != STATE || !places.iter().zip(types).all(within) {
+        return None;
+    }
+    let place = |n: usize| i128::from(places[n]);
+    Some(State {
+        nco: place(0),
+        t_acc: place(1),
+        v: place(2),
+        period: place(3),
+        gain_acc: place(4),
+        symbols: place(5),
+        head: place(6),
+        oldest: place(7),
+        waiting: place(8),
+        samples: place(9),
+        line: std::array::from_fn(|n| [place(10 + 2 * n), place(11 + 2 * n)]),
+        errors: std::array::from_fn(|n| [place(138 + 2 * n), place(139 + 2 * n)]),
+    })
+}
+
+/// The numbers that a fresh state has.
+pub fn start(reading: Result<&Reading, Number>, call: &Call) -> Result<Vec<i64>, Number> {
+    let fresh = reading?.start().numbers();
+    if call.state.len() == STATE {
+        Ok(fresh)
+    } else {
+        Err(9)
+    }
+}
+
+/// The state's numbers after a block, and what it writes.
+pub fn block(
+    reading: Result<&Reading, Number>,
+    call: &Call,
+) -> Result<(Vec<i64>, Vec<i64>), Number> {
+    let reading = reading?;
+    let state = state_of(&call.state).ok_or(9u32)?;
+    let block = reading.block(&state, &call.values, call.places);
+    match block.refusal.first() {
+        Some(number) => Err(*number as Number),
+        None => Ok((block.state.numbers(), block.output)),
+    }
+}
+
+/// Period, gain and symbols.
+pub fn read(reading: Result<&Reading, Number>, call: &Call) -> Result<[i64; 3], Number> {
+    let reading = reading?;
+    let state = state_of(&call.state).ok_or(9u32)?;
+    let read = reading.read(&state);
+    match read.refusal.first() {
+        Some(number) => Err(*number as Number),
+        None if call.room < 3 => Err(11),
+        None => Ok(read.numbers),
+    }
+}
+
+/// The offset of a period.
+pub fn offset(reading: Result<&Reading, Number>, call: &Call) -> Result<[i64; 1], Number> {
+    match reading?.offset(call.period) {
+        (_, 0) if call.room < 1 => Err(11),
+        (parts, 0) => Ok([parts]),
+        (_, number) => Err(number as Number),
+    }
+}
+
+/// Places that are enough for the symbols of these values.
+pub fn enough(values: &[i16]) -> usize {
+    SYMBOL * (values.len() / 2)
+}

@@ -1,0 +1,56 @@
+//! How many answers were compared, and how many differed.
+
+use std::collections::BTreeMap;
+
+/// Differences that are told one by one.
+const TOLD: u64 = 10;
+
+#[derive(Default)]
+pub struct Tally {
+    /// Whole answers of calls, each with all places that the call was lent.
+    pub compared: u64,
+    pub differed: u64,
+    pub samples: u64,
+    pub symbols: u64,
+    /// How many calls were refused by which number.
+    refused: BTreeMap<u32, u64>,
+    /// States that were changed between two calls.
+    pub changed: u64,
+}
+
+impl Tally {
+    pub fn answer(&mut self, what: &str, is_right: bool) {
+        self.compared += 1;
+        if is_right {
+            return;
+        }
+        self.differed += 1;
+        if self.differed <= TOLD {
+            eprintln!(
+                "answer {} differs: {what}, after {} samples",
+                self.compared, self.samples
+            );
+        }
+    }
+
+    /// Counts a refusal; 0 is none.
+    pub fn refusal(&mut self, number: u32) {
+        if number != 0 {
+            *self.refused.entry(number).or_default() += 1;
+        }
+    }
+
+    pub fn tell(&self) {
+        let of = |(number, calls): (&u32, &u64)| format!("{calls} by {number}");
+        let refused: Vec<String> = self.refused.iter().map(of).collect();
+        println!(
+            "{} compared, {} differed; {} samples, {} symbols, {} changed states, calls refused {}",
+            self.compared,
+            self.differed,
+            self.samples,
+            self.symbols,
+            self.changed,
+            refused.join(", ")
+        );
+    }
+}
