@@ -129,6 +129,14 @@ unfolding zeroOutside
 all-inside taps t [] f = refl
 all-inside taps t (c ∷ a) f = rw (f t (omega arith) (omega arith), all-inside taps (suc t) a (λ j l h. f j (omega arith) (omega arith)))
 
+-- a row of eight or fewer has nothing else
+pub short-centred : (row : List ℤ) → length row ≤ 8 → zeroOutside (length row) 0 row ≡ true
+unfolding detectorPlace
+short-centred row few =
+    let low : ℕ = (length row - 8) / 2 in
+    let wide : ℕ = min 8 (length row) in
+    all-inside (length row) 0 row (λ j l h. ap (λ (x : Bool). x && ltb j (low + wide)) (le-leb low j (omega arith)) ∙ lt-ltb j (low + wide) (omega arith))
+
 -- the middle's sum is the whole's just where both sides have none
 pub centred : (row : List ℤ) → eqb (magnitudes (take (min 8 (length row)) (drop ((length row - 8) / 2) row))) (magnitudes row) ≡ zeroOutside (length row) 0 row
 unfolding detectorPlace

@@ -7,7 +7,8 @@ use crate::ParamError;
 use crate::Verdict;
 ghost use mathlib.Core.Path.{_≡_};
 ghost use mathlib.Core.Bool.{true, _&&_};
-ghost use Prim.Native.Nat.{_+_, _-_, _*_, _/_, _≤_, _<_};
+ghost use Prim.Native.Nat.{_+_, _*_, _%_, _^_, _≤_, _<_};
+ghost use lib.Dec.{leb};
 ghost use lib.ListN.{length};
 ghost use lib.IntN.{natAbs};
 ghost use Rattle.params.specs.Refusal.{errorRefusal, verdictRefusal, nothing};
@@ -23,8 +24,40 @@ fn magnitude(c: i32) -> u32
     c as u32
 }
 
-// The sum of a row's magnitudes.
-fn magnitude_sum(row: &[i32]) -> u64
+// The sum of magnitudes, as far as it is taken, in 32 bits: of four magnitudes the machine then adds each to its own sum at once. It is theirs as long as
+// all of them were small.
+struct Narrow {
+    sum: u32,
+    small: bool,
+}
+
+fn with_magnitude(s: Narrow, m: u32) -> Narrow
+    ensures { λ r. ⌜ r ≡ record { sum = (s .sum + m) % 2 ^ 32; small = s .small && leb m 131071 } ⌝ }
+{
+    Narrow {
+        sum: std::num::wrapping_add_u32(s.sum, m),
+        small: s.small && m <= 131071,
+    }
+}
+
+fn narrow_sum(row: &[i32]) -> Narrow
+    requires { ⌜ length (now row) ≤ 64 ⌝ }
+    ensures { λ r. ⌜ (r .small ≡ true → r .sum ≡ magnitudes (now (row .entry))) ⌝ }
+{
+    let mut s = Narrow {
+        sum: 0,
+        small: true,
+    };
+    let mut i = 0;
+    while i < row.len() {
+        s = with_magnitude(s, magnitude(row[i]));
+        i += 1;
+    }
+    s
+}
+
+// The same of any row.
+fn wide_sum(row: &[i32]) -> u64
     requires { ⌜ length (now row) ≤ 64 ⌝ }
     ensures { λ r. ⌜ r ≡ magnitudes (now (row .entry)) ⌝ }
 {
@@ -35,6 +68,18 @@ fn magnitude_sum(row: &[i32]) -> u64
         i += 1;
     }
     sum
+}
+
+// The sum of a row's magnitudes.
+fn magnitude_sum(row: &[i32]) -> u64
+    requires { ⌜ length (now row) ≤ 64 ⌝ }
+    ensures { λ r. ⌜ r ≡ magnitudes (now (row .entry)) ⌝ }
+{
+    let s = narrow_sum(row);
+    if s.small {
+        return s.sum as u64;
+    }
+    wide_sum(row)
 }
 
 // What is wrong with a row whose magnitudes sum to more than 131071: its first coefficient outside 18 bits, or else the sum.
@@ -56,11 +101,14 @@ fn row_error(bank: u8, phase: usize, row: &[i32], sum: u64) -> ParamError
     ParamError::CoefficientSum { bank, phase, sum }
 }
 
-// Whether a row is zero outside the detector's places: then those have all that there is of its magnitudes.
+// Whether a row is zero outside the detector's places: then those have all that there is of its magnitudes. A row of eight or fewer has no others.
 fn is_centred(row: &[i32], sum: u64) -> bool
     requires { ⌜ (length (now row) ≤ 64) × (sum ≡ magnitudes (now row)) ⌝ }
     ensures { λ r. ⌜ r ≡ zeroOutside (length (now (row .entry))) 0 (now (row .entry)) ⌝ }
 {
+    if row.len() <= 8 {
+        return true;
+    }
     let d = crate::detector_of(row.len());
     let low = d.low;
     let high = d.high;
