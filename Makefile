@@ -1,5 +1,5 @@
 # make run       the main job, on the stored input
-# make test      the gate: proofs, must-fail edits and programs, from nothing
+# make test      the gate: the symbol program's cases, then all proofs, must-fail edits and programs from nothing
 # make symbols   proves and links the symbol program, target/bin/symbols
 # make cases     runs the symbol program on small inputs, refused and malformed ones among them
 # make oracle    compares this code with the Rust front end of isdb-rs
@@ -28,7 +28,8 @@ run: kit
 	@target/bin/replay_calls <crates/replay_calls/stdin
 	@target/bin/replay_floats <crates/replay_floats/stdin
 
-test: kit
+# The cases come first: rt ci starts from nothing, and the last line is its own.
+test: cases
 	@$(RT) fmt --check
 	@$(RT) ci
 
