@@ -1,7 +1,7 @@
 // Standard input, line by line through one buffer. A line is read where it stands; only one that the buffer's end cuts is moved to its front.
 ghost use mathlib.Core.Path.{_≡_};
 ghost use Prim.Native.Nat.{min};
-use crate::refusal::Stop;
+use crate::stop::Stop;
 use text::LineEnd;
 
 // What the buffer holds and is not used yet, from `at` to before `end`, and whether the input has ended behind it.

@@ -73,7 +73,7 @@ impl Output {
     }
 
     // Prints the line that stands in its place.
-    pub(crate) fn with_refusal(self, number: u8, line: u64, out: &mut [u8]) -> Output {
+    pub(crate) fn with_refusal(self, number: u32, line: u64, out: &mut [u8]) -> Output {
         let mut left = self.with_room(out);
         left.waiting = text::put_refusal(number, line, out, left.waiting);
         left

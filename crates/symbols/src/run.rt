@@ -2,8 +2,7 @@
 use crate::input;
 use crate::input::Input;
 use crate::output::Output;
-use crate::refusal;
-use crate::refusal::Stop;
+use crate::stop::Stop;
 use crate::sheet::Head;
 use fixed::Frontend;
 use params::Params;
@@ -89,7 +88,7 @@ impl Progress {
         let done = given.process(params, h, g, k, &values[0..used], places);
         let state = done.state;
         let verdict = done.verdict;
-        let number = refusal::of_frontend(verdict);
+        let number = verdict.number();
         let before = self.output;
         let output = before.with_symbols(places, done.count, out);
         let mut stop = block.stop;
@@ -137,7 +136,7 @@ pub(crate) fn run(
     let params = head.params;
     let started = Frontend::new(params, h, g, k);
     let verdict = started.verdict;
-    let number = refusal::of_verdict(verdict);
+    let number = verdict.number();
     let state = started.state;
     let mut stop = head.stop;
     if stop.is_no() && 0 < number {

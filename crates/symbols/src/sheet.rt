@@ -2,8 +2,7 @@
 ghost use Prim.Native.Nat.{_≤_};
 use crate::input;
 use crate::input::Input;
-use crate::refusal;
-use crate::refusal::Stop;
+use crate::stop::Stop;
 use params::Params;
 use text::I16;
 use text::I32;
@@ -76,11 +75,6 @@ fn params_of(values: &[i64]) -> Params {
     }
 }
 
-// Whether nothing but the taps is wrong so far: the banks are still empty, and judging names the taps before them.
-fn has_good_taps(params: Params) -> bool {
-    refusal::of_verdict(params.validate(&[], &[], &[])) != 1
-}
-
 // Puts a row of coefficients into a bank from a place on, and says where the next begins.
 fn keep_row(values: &[i64], room: &mut [i32], from: usize) -> usize {
     let start = input::least(from, room.len());
@@ -103,7 +97,7 @@ impl Head {
         let found = taken.stop;
         let stop = found.before(1);
         let params = params_of(&values);
-        if stop.is_no() && !has_good_taps(params) {
+        if stop.is_no() && !params::is_good_taps(params.taps) {
             return Head {
                 params,
                 rest,

@@ -57,7 +57,7 @@ fn larger(a: u8, b: u8) -> u8
     a
 }
 
-fn number_of(fault: u8) -> u8
+fn number_of(fault: u8) -> u32
     ensures { λ r. ⌜ r ≡ numberOf fault ⌝ }
 {
     if fault == 0 {
@@ -80,7 +80,7 @@ fn put_value(v: i64, out: &mut [i64], n: usize)
 
 // Reads a line (without its line feed) as fields of these types, and puts their values at the start of `out`. The answer is 0, or the refusal's number: 18
 // where the line has another number of fields or one of wrong form, else 19 where a value is outside its type (document 01: the symbol program).
-pub fn read_line(s: &[u8], kinds: &[u8], out: &mut [i64]) -> u8
+pub fn read_line(s: &[u8], kinds: &[u8], out: &mut [i64]) -> u32
     ensures { λ r. ⌜ Reading (now (kinds .entry)) (now (s .entry)) (now (out .entry)) r (now (out .exit)) ⌝ }
 {
     let mut at: usize = 0;
