@@ -125,7 +125,7 @@ impl Replay {
         let verdict = offset.verdict;
         row.len() == 4
             && rows::at(row, 2) == offset.parts
-            && rows::at(row, 3) == answer::of_offset(verdict).number
+            && rows::at(row, 3) == verdict.number() as i64
     }
 
     // Row 8: starting.

@@ -2,8 +2,8 @@
 use crate::input;
 use crate::input::Input;
 use crate::output::Output;
-use crate::stop::Stop;
 use crate::sheet::Head;
+use crate::stop::Stop;
 use fixed::Frontend;
 use params::Params;
 use text::I16;
