@@ -89,10 +89,10 @@ impl DesignError {
         ensures { λ r. ⌜ r ≡ designRefusal self .number ⌝ }
     {
         match self {
-            DesignError::SamplesPerSymbol { sps: _ } => 14,
+            DesignError::SamplesPerSymbol { .. } => 14,
             DesignError::Taps => 15,
             DesignError::Bits => 16,
-            DesignError::Trim { trim: _ } => 17,
+            DesignError::Trim { .. } => 17,
         }
     }
 }

@@ -83,19 +83,11 @@ impl ParamError {
         match self {
             ParamError::Taps => 1,
             ParamError::BankLength => 2,
-            ParamError::Coefficient {
-                bank: _,
-                phase: _,
-                value: _,
-            } => 3,
-            ParamError::CoefficientSum {
-                bank: _,
-                phase: _,
-                sum: _,
-            } => 4,
-            ParamError::DetectorTaps { bank: _ } => 5,
+            ParamError::Coefficient { .. } => 3,
+            ParamError::CoefficientSum { .. } => 4,
+            ParamError::DetectorTaps { .. } => 5,
             ParamError::PeriodBounds => 6,
-            ParamError::Range { field: _ } => 7,
+            ParamError::Range { .. } => 7,
             ParamError::AgcShift => 8,
         }
     }

@@ -1,5 +1,4 @@
 // The pairs, through the front end in blocks. What is printed does not depend on their size.
-use crate::input;
 use crate::input::Input;
 use crate::output::Output;
 use crate::sheet::Head;
@@ -83,7 +82,7 @@ impl Progress {
         out: &mut [u8],
     ) -> Progress {
         let block = block_of(self.rest, self.line, values, bytes);
-        let used = input::least(block.used, values.len());
+        let used = arith::least(block.used, values.len());
         let given = self.state;
         let done = given.process(params, h, g, k, &values[0..used], places);
         let state = done.state;

@@ -1,25 +1,16 @@
 // A line: where it ends, and the fields that commas part it into.
 ghost use mathlib.Core.Path.{_≡_};
-ghost use Prim.Native.Nat.{_≤_, _+_, min, max};
+ghost use Prim.Native.Nat.{_≤_, _+_, max};
 ghost use lib.ListN.{length, drop, set};
 ghost use Rattle.text.specs.Line.{before, lineEndOf, numberOf, Reading};
 use crate::LONGEST;
 use crate::LineEnd;
 use crate::fields;
 
-fn least(a: usize, b: usize) -> usize
-    ensures { λ r. ⌜ r ≡ min a b ⌝ }
-{
-    if a < b {
-        return a;
-    }
-    b
-}
-
 pub fn line_end(s: &[u8]) -> LineEnd
     ensures { λ r. ⌜ r ≡ lineEndOf (now (s .entry)) ⌝ }
 {
-    let most = least(s.len(), LONGEST + 1);
+    let most = arith::least(s.len(), LONGEST + 1);
     let mut i: usize = 0;
     while i < most {
         if s[i] == b'\n' {
