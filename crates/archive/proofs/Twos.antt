@@ -3,10 +3,10 @@ use Prim.Native.Nat.{ℕ, zero, suc, _+_, _*_, _/_, _%_, _≤_, _<_}
 use mathlib.Core.Path.{_≡_, refl, sym, ap, _∙_}
 use mathlib.Core.List.{List, [], _∷_, _++_, append-assoc}
 use native.Mathlib.Omega.{arith}
-use lib.ListN.{length, getD, set, take, drop, length-drop}
-use lib.Seq.{ext-getD, getD-take, getD-drop, length-take-le, take-all, paste, paste-suc}
+use lib.ListN.{length, getD, set, take, drop, replicate, length-set, length-drop, length-replicate}
+use lib.Seq.{ext-getD, getD-take, getD-drop, length-take-le, take-all, paste, paste-zero, paste-suc}
 use lib.IntN.{ℤ, pos}
-use Rattle.fixed.proofs.Filling.{Filled}
+use Rattle.fixed.proofs.Filling.{Filled, filled-none, filled-next}
 use Rattle.archive.specs.Places.{at}
 use Rattle.archive.specs.State.{twos, untwos}
 
@@ -29,17 +29,31 @@ module _ {A : Type 0} (of : ℤ → ℤ → A) where
       let k : 2 * suc n + 1 ≡ suc (suc (2 * n + 1)) = omega arith in
       rw (k, e) (twos-at d l n (omega arith))
 
-  -- an array that a loop has filled from two places a turn
-  pub filled-twos : (d : A) (l : List ℤ) (from next n : ℕ) {a₀ a : List A} → next ≡ from + 1 → length a₀ ≡ n → from + 2 * n ≤ length l
-      → Filled d (λ m. of (at l (from + 2 * m)) (at l (next + 2 * m))) n a₀ a → a ≡ twos of (take (2 * n) (drop from l))
-  filled-twos d l from next n {a₀} {a} e long enough filled =
-      let part : List ℤ = take (2 * n) (drop from l) in
-      let part-long : length part ≡ 2 * n = length-take-le (2 * n) (drop from l) (omega (arith, length-drop from l)) in
-      let of-part : (m : ℕ) → m < 2 * n → at part m ≡ at l (from + m) = λ m h. getD-take (2 * n) (drop from l) m (pos 0) h ∙ getD-drop from l m (pos 0) in
+-- What a loop that reads two places a turn has made after n of them: an array with so many places, of which the first n are filled.
+pub record Taken {A : Type 0} (of : ℤ → ℤ → A) (none : A) (from next count : ℕ) (l : List ℤ) (n : ℕ) (a : List A) : Type 0 where
+  pub turns : n ≤ count
+  pub filled : Filled none (λ m. of (at l (from + 2 * m)) (at l (next + 2 * m))) n (replicate count none) a
+
+module _ {A : Type 0} {of : ℤ → ℤ → A} {none : A} {from next count : ℕ} {l : List ℤ} where
+  pub taken-none : Taken of none from next count l 0 (replicate count none)
+  taken-none = record { turns = omega arith; filled = filled-none none _ (replicate count none) }
+
+  pub taken-next : {n : ℕ} {a : List A} {x y : ℤ} → Taken of none from next count l n a → n < count → x ≡ at l (from + 2 * n) → y ≡ at l (next + 2 * n)
+      → Taken of none from next count l (n + 1) (set a n (of x y))
+  taken-next {n} {a} t h e k =
+      let long : length a ≡ count = t .filled .long ∙ length-replicate count none in
+      record { turns = omega arith; filled = rw (e, k) (filled-next (t .filled) (omega arith)) }
+
+  pub taken-all : {n : ℕ} {a : List A} → Taken of none from next count l n a → count ≤ n → next ≡ from + 1 → from + 2 * count ≤ length l
+      → a ≡ twos of (take (2 * count) (drop from l))
+  taken-all {n} {a} t all e enough =
+      let part : List ℤ = take (2 * count) (drop from l) in
+      let part-long : length part ≡ 2 * count = length-take-le (2 * count) (drop from l) (omega (arith, length-drop from l)) in
+      let of-part : (m : ℕ) → m < 2 * count → at part m ≡ at l (from + m) = λ m h. getD-take (2 * count) (drop from l) m (pos 0) h ∙ getD-drop from l m (pos 0) in
       let place : (m : ℕ) → next + 2 * m ≡ from + (2 * m + 1) = λ m. omega arith in
-      ext-getD d a (twos of part) (omega (arith, filled .long, twos-long part))
-      (λ m h. let k : m < n = omega (arith, filled .long) in
-      rw (twos-at d part m (omega arith), of-part (2 * m) (omega arith), of-part (2 * m + 1) (omega arith), ← place m) (filled .first m k))
+      let long : length a ≡ count = t .filled .long ∙ length-replicate count none in
+      ext-getD none a (twos of part) (omega (arith, twos-long of part))
+      (λ m h. rw (twos-at of none part m (omega arith), of-part (2 * m) (omega arith), of-part (2 * m + 1) (omega arith), ← place m) (t .filled .first m (omega (arith, t .turns))))
 
 -- ---- two numbers of each
 
@@ -65,8 +79,8 @@ module _ {A : Type 0} (first second : A → ℤ) where
       let e : suc (2 * suc n) ≡ suc (suc (suc (2 * n))) = omega arith in
       rw e (untwos-second z xs n (omega arith))
 
-  -- a turn of the loop that writes two numbers of each
-  pub paste-two : (l : List ℤ) (from next : ℕ) (z : A) (xs : List A) (n : ℕ) → next ≡ from + 1 → n < length xs → from + 2 * length xs ≤ length l
+  -- two numbers more, behind those that are pasted
+  paste-two : (l : List ℤ) (from next : ℕ) (z : A) (xs : List A) (n : ℕ) → next ≡ from + 1 → n < length xs → from + 2 * length xs ≤ length l
       → set (set (paste l from (untwos first second xs) (2 * n)) (from + 2 * n) (first (getD xs n z))) (next + 2 * n) (second (getD xs n z))
       ≡ paste l from (untwos first second xs) (2 * (n + 1))
   paste-two l from next z xs n e h enough =
@@ -82,12 +96,34 @@ module _ {A : Type 0} (first second : A → ℤ) where
       ∙ paste-suc l from y (suc (2 * n)) (pos 0) (omega arith) (omega (arith, untwos-long xs))
       ∙ ap (λ (m : ℕ). paste l from y m) two
 
-  pub paste-all : (l : List ℤ) (from : ℕ) (xs : List A) (n : ℕ) → length xs ≡ n
-      → paste l from (untwos first second xs) (2 * n) ≡ take from l ++ (untwos first second xs ++ drop (from + 2 * n) l)
-  paste-all l from xs n e =
+-- What a loop that writes two places a turn has made of l after n of them: the numbers of the first n stand in it, and it is as long as it was.
+pub record Put {A : Type 0} (first second : A → ℤ) (from next count : ℕ) (xs : List A) (l : List ℤ) (n : ℕ) (p : List ℤ) : Type 0 where
+  pub turns : n ≤ count
+  pub long : length p ≡ length l
+  pub pasted : p ≡ paste l from (untwos first second xs) (2 * n)
+
+module _ {A : Type 0} {first second : A → ℤ} {from next count : ℕ} {xs : List A} {l : List ℤ} where
+  pub put-none : Put first second from next count xs l 0 l
+  put-none = record { turns = omega arith; long = refl; pasted = paste-zero l from (untwos first second xs) }
+
+  pub put-next : {n : ℕ} {p : List ℤ} (z : A) → Put first second from next count xs l n p → n < count → length xs ≡ count → next ≡ from + 1 → from + 2 * count ≤ length l
+      → Put first second from next count xs l (n + 1) (set (set p (from + 2 * n) (first (getD xs n z))) (next + 2 * n) (second (getD xs n z)))
+  put-next {n} {p} z w h k e enough =
+      let x : A = getD xs n z in
+      record {
+        turns = omega arith;
+        long = length-set (set p (from + 2 * n) (first x)) (next + 2 * n) (second x) ∙ length-set p (from + 2 * n) (first x) ∙ w .long;
+        pasted = rw (w .pasted) (paste-two first second l from next z xs n e (omega arith) (omega arith));
+      }
+
+  pub put-all : {n : ℕ} {p : List ℤ} → Put first second from next count xs l n p → count ≤ n → length xs ≡ count
+      → p ≡ take from l ++ (untwos first second xs ++ drop (from + 2 * count) l)
+  put-all {n} {p} w all e =
       let y : List ℤ = untwos first second xs in
-      append-assoc (take from l) (take (2 * n) y) (drop (from + 2 * n) l)
-      ∙ ap (λ (p : List ℤ). take from l ++ (p ++ drop (from + 2 * n) l)) (take-all (2 * n) y (omega (arith, untwos-long xs)))
+      let done : n ≡ count = omega (arith, w .turns) in
+      rw done at (w .pasted)
+      ∙ append-assoc (take from l) (take (2 * count) y) (drop (from + 2 * count) l)
+      ∙ ap (λ (q : List ℤ). take from l ++ (q ++ drop (from + 2 * count) l)) (take-all (2 * count) y (omega (arith, untwos-long first second xs)))
 
 -- ---- one undoes the other
 

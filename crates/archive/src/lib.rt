@@ -3,7 +3,6 @@
 // No call asks anything of its caller: whatever is lent, it answers, with a refusal's number where something is wrong, and then it has touched no place.
 // A sheet is 17 places and a state 186, a design five rates and eight places (sheet.rt, state.rt, rates.rt). 18 and 19 refuse a sheet or a design that
 // cannot be read, before 1 to 8 and 14 to 17; places that are those of no state are refused by 9, after 1 to 8.
-mod number;
 mod places;
 mod rates;
 mod sheet;
@@ -25,7 +24,7 @@ pub extern "C" fn huntelm_judge(sheet: &[i64], h: &[i32], g: &[i32], k: &[i32]) 
         return unread;
     }
     let verdict = sheet::params_of(sheet).validate(h, g, k);
-    number::of_verdict(verdict)
+    verdict.number()
 }
 
 // Writes the fresh state of a sheet (document 01: starting).
@@ -45,7 +44,7 @@ pub extern "C" fn huntelm_start(
     }
     let started = fixed::Frontend::new(sheet::params_of(sheet), h, g, k);
     let verdict = started.verdict;
-    let refused = number::of_verdict(verdict);
+    let refused = verdict.number();
     if refused != 0 {
         return refused;
     }
@@ -62,7 +61,7 @@ fn no_state(p: Params, h: &[i32], g: &[i32], k: &[i32]) -> u32
     ensures { λ r. ⌜ r ≡ first (judged (sheetOf p (now (h .entry)) (now (g .entry)) (now (k .entry))) .number) 9 ⌝ }
 {
     let verdict = p.validate(h, g, k);
-    let refused = number::of_verdict(verdict);
+    let refused = verdict.number();
     if refused != 0 {
         return refused;
     }
@@ -93,7 +92,7 @@ pub extern "C" fn huntelm_block(
     }
     let done = state::read(&*state).process(p, h, g, k, values, &mut *out);
     let verdict = done.verdict;
-    let refused = number::of_frontend(verdict);
+    let refused = verdict.number();
     if refused != 0 {
         return 0 - refused as i64;
     }
@@ -124,7 +123,7 @@ pub extern "C" fn huntelm_read(
     }
     let reading = state::read(state).read(p, h, g, k);
     let verdict = reading.verdict;
-    let refused = number::of_frontend(verdict);
+    let refused = verdict.number();
     if refused != 0 {
         return refused;
     }
@@ -155,7 +154,7 @@ pub extern "C" fn huntelm_offset(
     }
     let offset = sheet::params_of(sheet).offset(h, g, k, period);
     let verdict = offset.verdict;
-    let refused = number::of_offset(verdict);
+    let refused = verdict.number();
     if refused != 0 {
         return refused;
     }
@@ -205,7 +204,7 @@ pub extern "C" fn huntelm_design(
     let designed = rates::design_of(rates, fields);
     let verdict = designed.params(rates::gains_of(fields), h, g, k);
     match verdict {
-        SheetVerdict::Refused(e) => number::of_sheet(e),
+        SheetVerdict::Refused(e) => e.number(),
         SheetVerdict::Accepted(p) => {
             if sheet.len() < 17 {
                 return 11;

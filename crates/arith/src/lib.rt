@@ -2,7 +2,7 @@
 //
 // Every function here is total. It answers for each input what its definition over ℤ says (specs/Arith.antt), and no caller owes it anything.
 ghost use mathlib.Core.Path.{_≡_};
-ghost use Prim.Native.Nat.{_^_};
+ghost use Prim.Native.Nat.{_^_, min};
 ghost use lib.IntN.{_*ℤ_};
 ghost use lib.Signed.{shrZ};
 ghost use Rattle.arith.specs.Arith.{roundShift, clampZ, sat16Z, modZ, wrapI32};
@@ -63,6 +63,16 @@ pub fn clamp(v: i64, lo: i64, hi: i64) -> i64
         return hi;
     }
     v
+}
+
+// The smaller of two sizes.
+pub fn least(a: usize, b: usize) -> usize
+    ensures { λ r. ⌜ r ≡ min a b ⌝ }
+{
+    if a < b {
+        return a;
+    }
+    b
 }
 
 // Saturate to 16 bits.

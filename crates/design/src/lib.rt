@@ -7,8 +7,7 @@ use params::Verdict;
 ghost use mathlib.Core.Path.{_≡_};
 ghost use mathlib.Core.Bool.{_&&_};
 ghost use lib.Dec.{leb};
-ghost use Rattle.params.specs.Judge.{goodTaps};
-ghost use Rattle.design.specs.Refusal.{designAnswer, sheetAnswer};
+ghost use Rattle.design.specs.Refusal.{designRefusal, sheetRefusal, designAnswer, sheetAnswer};
 ghost use Rattle.design.specs.Steps.{spsOf, registersOf};
 ghost use Rattle.design.specs.Design.{goodSps, goodTrim, designOf, paramsOf, judgedOf, sheetOfDesign};
 
@@ -81,6 +80,36 @@ pub enum SheetVerdict {
     Refused(SheetError),
 }
 
+// ---- the numbers of refusals
+//
+// Text and C have no enums: there a refusal is its number alone. What else it carries does not cross.
+
+impl DesignError {
+    pub fn number(self) -> u32
+        ensures { λ r. ⌜ r ≡ designRefusal self .number ⌝ }
+    {
+        match self {
+            DesignError::SamplesPerSymbol { .. } => 14,
+            DesignError::Taps => 15,
+            DesignError::Bits => 16,
+            DesignError::Trim { .. } => 17,
+        }
+    }
+}
+
+impl SheetError {
+    pub fn number(self) -> u32
+        ensures { λ r. ⌜ r ≡ sheetRefusal self .number ⌝ }
+    {
+        match self {
+            SheetError::Design(e) => e.number(),
+            SheetError::Params(e) => e.number(),
+        }
+    }
+}
+
+// ---- a design, judged
+
 // 14. The first test refuses a NaN.
 fn is_good_sps(sps: f64) -> bool
     ensures { λ r. ⌜ r ≡ goodSps sps ⌝ }
@@ -89,19 +118,6 @@ fn is_good_sps(sps: f64) -> bool
         return sps < 4.0;
     }
     false
-}
-
-// 15, which is the judge's rule on taps.
-fn is_good_taps(taps: u32) -> bool
-    ensures { λ r. ⌜ r ≡ goodTaps taps ⌝ }
-{
-    if taps < 4 {
-        return false;
-    }
-    if 64 < taps {
-        return false;
-    }
-    taps % 2 == 0
 }
 
 // 16.
@@ -140,7 +156,7 @@ impl Design {
         if !is_good_sps(sps) {
             return DesignVerdict::Refused(DesignError::SamplesPerSymbol { sps });
         }
-        if !is_good_taps(self.taps) {
+        if !params::is_good_taps(self.taps) {
             return DesignVerdict::Refused(DesignError::Taps);
         }
         if !is_good_bits(self.bits) {

@@ -118,6 +118,22 @@ pub enum FrontendVerdict {
     TooManySamples,
 }
 
+// Its number, since text and C take nothing else of it; 0 where nothing is refused.
+impl FrontendVerdict {
+    pub fn number(self) -> u32
+        ensures { λ r. ⌜ r ≡ frontendRefusal self .number ⌝ }
+    {
+        match self {
+            FrontendVerdict::Accepted => 0,
+            FrontendVerdict::Params(e) => e.number(),
+            FrontendVerdict::State => 9,
+            FrontendVerdict::OddInput => 10,
+            FrontendVerdict::ShortOutput => 11,
+            FrontendVerdict::TooManySamples => 12,
+        }
+    }
+}
+
 // What starting answers: a fresh state, or one of zeros where the sheet is refused.
 pub struct Started {
     pub verdict: Verdict,

@@ -6,9 +6,9 @@ ghost use mathlib.Core.Bool.{_&&_};
 ghost use Prim.Native.Nat.{_+_, _-_, _/_, min};
 ghost use lib.Dec.{leb};
 ghost use lib.IntN.{pos};
-ghost use Rattle.params.specs.Refusal.{verdictRefusal};
-ghost use Rattle.params.specs.Judge.{sheetOf, firstOf, within, lengthFaults, goodPeriods, fieldFaults, judged};
-ghost use Rattle.params.specs.Offset.{offsetParts, partsOf, offsetOf};
+ghost use Rattle.params.specs.Refusal.{errorRefusal, verdictRefusal};
+ghost use Rattle.params.specs.Judge.{sheetOf, firstOf, within, goodTaps, lengthFaults, goodPeriods, fieldFaults, judged};
+ghost use Rattle.params.specs.Offset.{offsetRefusal, offsetParts, partsOf, offsetOf};
 
 // The run-time parameters (document 01: the sheet). The banks h, g and k are lent beside it, each 64 rows of `taps` numbers, row by row.
 pub struct Params {
@@ -72,6 +72,52 @@ pub struct Offset {
     pub parts: i64,
 }
 
+// ---- the numbers of refusals
+//
+// Text and C have no enums: there a refusal is its number alone, and 0 is that of nothing refused. What else it carries does not cross.
+
+impl ParamError {
+    pub fn number(self) -> u32
+        ensures { λ r. ⌜ r ≡ errorRefusal self .number ⌝ }
+    {
+        match self {
+            ParamError::Taps => 1,
+            ParamError::BankLength => 2,
+            ParamError::Coefficient { .. } => 3,
+            ParamError::CoefficientSum { .. } => 4,
+            ParamError::DetectorTaps { .. } => 5,
+            ParamError::PeriodBounds => 6,
+            ParamError::Range { .. } => 7,
+            ParamError::AgcShift => 8,
+        }
+    }
+}
+
+impl Verdict {
+    pub fn number(self) -> u32
+        ensures { λ r. ⌜ r ≡ verdictRefusal self .number ⌝ }
+    {
+        match self {
+            Verdict::Accepted => 0,
+            Verdict::Refused(e) => e.number(),
+        }
+    }
+}
+
+impl OffsetVerdict {
+    pub fn number(self) -> u32
+        ensures { λ r. ⌜ r ≡ offsetRefusal self .number ⌝ }
+    {
+        match self {
+            OffsetVerdict::Accepted => 0,
+            OffsetVerdict::Params(e) => e.number(),
+            OffsetVerdict::Period => 13,
+        }
+    }
+}
+
+// ---- judging
+
 // Where the timing detector's places of a row begin and end: the eight in the middle, or all of a row that has fewer.
 pub struct Detector {
     pub low: usize,
@@ -88,17 +134,24 @@ pub fn detector_of(taps: usize) -> Detector
     Detector { low, high: low + 8 }
 }
 
+// Even, and from 4 to 64. What refuses a sheet by 1 refuses a design by 15, and text before its banks are read.
+pub fn is_good_taps(taps: u32) -> bool
+    ensures { λ r. ⌜ r ≡ goodTaps taps ⌝ }
+{
+    if taps < 4 {
+        return false;
+    }
+    if 64 < taps {
+        return false;
+    }
+    taps % 2 == 0
+}
+
 // 1 and 2: the taps, then the lengths of h, g and k.
 fn check_lengths(taps: u32, h: &[i32], g: &[i32], k: &[i32]) -> Verdict
     ensures { λ r. ⌜ verdictRefusal r ≡ firstOf (lengthFaults taps (now (h .entry)) (now (g .entry)) (now (k .entry))) ⌝ }
 {
-    if taps < 4 {
-        return Verdict::Refused(ParamError::Taps);
-    }
-    if 64 < taps {
-        return Verdict::Refused(ParamError::Taps);
-    }
-    if taps % 2 != 0 {
+    if !is_good_taps(taps) {
         return Verdict::Refused(ParamError::Taps);
     }
     let long = 64 * (taps as usize);

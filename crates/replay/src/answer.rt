@@ -9,14 +9,14 @@ ghost use Rattle.replay.specs.Answers.{carriesNone, carriesOne, carriesT
 // A refusal, as so many numbers of the four. What it does not carry is 0.
 pub struct Answer {
     pub long: usize,
-    pub number: i64,
+    pub number: u32,
     pub first: i64,
     pub second: i64,
     pub third: i64,
 }
 
 // A refusal that carries nothing.
-pub fn alone(number: i64) -> Answer
+pub fn alone(number: u32) -> Answer
     ensures { λ r. ⌜ r ≡ carriesNone number ⌝ }
 {
     Answer {
@@ -28,7 +28,7 @@ pub fn alone(number: i64) -> Answer
     }
 }
 
-fn of_bank(number: i64, bank: u8) -> Answer
+fn of_bank(number: u32, bank: u8) -> Answer
     ensures { λ r. ⌜ r ≡ carriesOne number (pos bank) ⌝ }
 {
     Answer {
@@ -40,7 +40,7 @@ fn of_bank(number: i64, bank: u8) -> Answer
     }
 }
 
-fn of_row(number: i64, bank: u8, phase: usize, carried: i64) -> Answer
+fn of_row(number: u32, bank: u8, phase: usize, carried: i64) -> Answer
     ensures { λ r. ⌜ r ≡ carriesThree number (pos bank) (signedBits phase) carried ⌝ }
 {
     Answer {
@@ -56,19 +56,17 @@ fn of_row(number: i64, bank: u8, phase: usize, carried: i64) -> Answer
 pub fn of_error(e: ParamError) -> Answer
     ensures { λ r. ⌜ r ≡ ofError e ⌝ }
 {
+    let number = e.number();
     match e {
-        ParamError::Taps => alone(1),
-        ParamError::BankLength => alone(2),
         ParamError::Coefficient { bank, phase, value } => {
-            of_row(3, bank, phase, rows::wide(value))
+            of_row(number, bank, phase, rows::wide(value))
         }
         ParamError::CoefficientSum { bank, phase, sum } => {
-            of_row(4, bank, phase, rows::i64_of(sum))
+            of_row(number, bank, phase, rows::i64_of(sum))
         }
-        ParamError::DetectorTaps { bank } => of_bank(5, bank),
-        ParamError::PeriodBounds => alone(6),
-        ParamError::Range { field } => of_bank(7, field),
-        ParamError::AgcShift => alone(8),
+        ParamError::DetectorTaps { bank } => of_bank(number, bank),
+        ParamError::Range { field } => of_bank(number, field),
+        _ => alone(number),
     }
 }
 
@@ -80,7 +78,7 @@ impl Answer {
         if numbers.len() != self.long {
             return false;
         }
-        if rows::at(numbers, 0) != self.number {
+        if rows::at(numbers, 0) != self.number as i64 {
             return false;
         }
         if rows::at(numbers, 1) != self.first {

@@ -1,5 +1,4 @@
 // The three banks that rows give. They share one room, h's third of it first, then g's and k's.
-use crate::rows;
 ghost use mathlib.Core.Path.{_≡_};
 ghost use lib.ListN.{length, take, drop};
 ghost use Rattle.replay.specs.Banks.{noBanks, keptOf, roomWith};
@@ -19,9 +18,9 @@ fn keep(coefficients: &[i64], room: &mut [i32], from: usize) -> usize
     ensures { λ r. ⌜ r ≡ keptOf (length (now (coefficients .entry))) (length (now (room .entry))) from ⌝ }
     ensures { λ r. ⌜ now (room .exit) ≡ roomWith (now (coefficients .entry)) (now (room .entry)) from ⌝ }
 {
-    let start = rows::least(from, room.len());
-    let third = rows::least(THIRD, room.len() - start);
-    let n = rows::least(coefficients.len(), third);
+    let start = arith::least(from, room.len());
+    let third = arith::least(THIRD, room.len() - start);
+    let n = arith::least(coefficients.len(), third);
     let mut i: usize = 0;
     while i < n {
         let c = arith::wrap_i32(coefficients[i]);
@@ -35,8 +34,8 @@ fn keep(coefficients: &[i64], room: &mut [i32], from: usize) -> usize
 fn part(room: &[i32], from: usize, long: usize) -> &[i32]
     ensures { λ r. ⌜ now r ≡ take long (drop from (now (room .entry))) ⌝ }
 {
-    let start = rows::least(from, room.len());
-    let end = start + rows::least(long, room.len() - start);
+    let start = arith::least(from, room.len());
+    let end = start + arith::least(long, room.len() - start);
     &room[start..end]
 }
 

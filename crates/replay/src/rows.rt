@@ -1,19 +1,10 @@
 // The numbers of a row, and how they stand for what a call takes and answers. A row is lent as a slice of the numbers that it has, its kind first.
 ghost use mathlib.Core.Path.{_≡_};
-ghost use Prim.Native.Nat.{min, _%_, _^_};
+ghost use Prim.Native.Nat.{_%_, _^_};
 ghost use lib.IntN.{pos};
 ghost use lib.ListN.{getD, drop};
 ghost use Rattle.arith.specs.Arith.{modZ};
 ghost use Rattle.replay.specs.Rows.{signedBits};
-
-pub fn least(a: usize, b: usize) -> usize
-    ensures { λ r. ⌜ r ≡ min a b ⌝ }
-{
-    if a < b {
-        return a;
-    }
-    b
-}
 
 // The number at a place; 0 where the row has none.
 pub fn at(row: &[i64], place: usize) -> i64
@@ -29,7 +20,7 @@ pub fn at(row: &[i64], place: usize) -> i64
 pub fn rest(row: &[i64], from: usize) -> &[i64]
     ensures { λ r. ⌜ now r ≡ drop from (now (row .entry)) ⌝ }
 {
-    let start = least(from, row.len());
+    let start = arith::least(from, row.len());
     &row[start..]
 }
 

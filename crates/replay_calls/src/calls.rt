@@ -22,7 +22,7 @@ pub(crate) struct Replay {
 
 // Keeps sample values, and says how many.
 fn keep_values(numbers: &[i64], values: &mut [i16]) -> usize {
-    let n = rows::least(numbers.len(), values.len());
+    let n = arith::least(numbers.len(), values.len());
     let mut i: usize = 0;
     while i < n {
         let v = arith::sat16(numbers[i]);
@@ -125,7 +125,7 @@ impl Replay {
         let verdict = offset.verdict;
         row.len() == 4
             && rows::at(row, 2) == offset.parts
-            && rows::at(row, 3) == answer::of_offset(verdict).number
+            && rows::at(row, 3) == verdict.number() as i64
     }
 
     // Row 8: starting.
@@ -166,12 +166,12 @@ impl Replay {
     // Row 11.
     fn is_output(self, row: &[i64], out: &[i64]) -> bool {
         let numbers = rows::rest(row, 2);
-        let places = rows::least(self.places, out.len());
+        let places = arith::least(self.places, out.len());
         let from = rows::u64_of(rows::at(row, 1)) as usize;
         if places < from {
             return false;
         }
-        let end = from + rows::least(numbers.len(), places - from);
+        let end = from + arith::least(numbers.len(), places - from);
         is_same(&out[from..end], numbers)
     }
 
@@ -217,8 +217,8 @@ impl Replay {
             return self.started(row, room);
         }
         if kind == 10 {
-            let given = rows::least(self.values, values.len());
-            let places = rows::least(rows::u64_of(rows::at(row, 1)) as usize, out.len());
+            let given = arith::least(self.values, values.len());
+            let places = arith::least(rows::u64_of(rows::at(row, 1)) as usize, out.len());
             return self.processed(row, room, &values[0..given], &mut out[0..places]);
         }
         self.counted(self.is_answered(row, room, &*out))

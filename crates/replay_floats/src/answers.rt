@@ -23,16 +23,16 @@ fn is_float(number: i64, x: f64) -> bool {
 }
 
 // Whether these are the numbers of a refusal that carries a float.
-fn is_carried(number: i64, x: f64, numbers: &[i64]) -> bool {
-    numbers.len() == 2 && rows::at(numbers, 0) == number && is_float(rows::at(numbers, 1), x)
+fn is_carried(number: u32, x: f64, numbers: &[i64]) -> bool {
+    numbers.len() == 2 && rows::at(numbers, 0) == number as i64 && is_float(rows::at(numbers, 1), x)
 }
 
 fn is_refusal(e: DesignError, numbers: &[i64]) -> bool {
+    let number = e.number();
     match e {
-        DesignError::SamplesPerSymbol { sps } => is_carried(14, sps, numbers),
-        DesignError::Taps => answer::alone(15).is(numbers),
-        DesignError::Bits => answer::alone(16).is(numbers),
-        DesignError::Trim { trim } => is_carried(17, trim, numbers),
+        DesignError::SamplesPerSymbol { sps } => is_carried(number, sps, numbers),
+        DesignError::Trim { trim } => is_carried(number, trim, numbers),
+        _ => answer::alone(number).is(numbers),
     }
 }
 

@@ -1,7 +1,5 @@
 // Standard input, line by line through one buffer. A line is read where it stands; only one that the buffer's end cuts is moved to its front.
-ghost use mathlib.Core.Path.{_≡_};
-ghost use Prim.Native.Nat.{min};
-use crate::refusal::Stop;
+use crate::stop::Stop;
 use text::LineEnd;
 
 // What the buffer holds and is not used yet, from `at` to before `end`, and whether the input has ended behind it.
@@ -38,26 +36,17 @@ pub(crate) struct Taken {
 // More reads than one line can take: each but the last brings a byte, and a line of more than 1,024 is too long.
 const READS: u32 = 1026;
 
-pub(crate) fn least(a: usize, b: usize) -> usize
-    ensures { λ r. ⌜ r ≡ min a b ⌝ }
-{
-    if a < b {
-        return a;
-    }
-    b
-}
-
 // The bytes from one place to before another, as far as there are any.
 pub(crate) fn part(bytes: &[u8], from: usize, to: usize) -> &[u8] {
-    let end = least(to, bytes.len());
-    let at = least(from, end);
+    let end = arith::least(to, bytes.len());
+    let at = arith::least(from, end);
     &bytes[at..end]
 }
 
 // Moves the bytes from one place to before another to the front, and says how many there are.
 fn to_front(bytes: &mut [u8], from: usize, to: usize) -> usize {
-    let end = least(to, bytes.len());
-    let at = least(from, end);
+    let end = arith::least(to, bytes.len());
+    let at = arith::least(from, end);
     let mut n: usize = 0;
     while n < end - at {
         bytes[n] = bytes[at + n];
@@ -77,7 +66,7 @@ impl Input {
 
     // Reads on behind the bytes that are not used yet.
     fn more(self, bytes: &mut [u8]) -> More {
-        let kept = least(to_front(bytes, self.at, self.end), bytes.len());
+        let kept = arith::least(to_front(bytes, self.at, self.end), bytes.len());
         let got = libc::read(libc::STDIN_FILENO, &mut bytes[kept..]);
         if got < 0 {
             os::fail(b"symbols: reading standard input");

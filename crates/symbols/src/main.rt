@@ -4,9 +4,9 @@
 // end in blocks (run.rt), and their symbols through a second buffer to the output (output.rt). The memory is the same however long the input is.
 mod input;
 mod output;
-mod refusal;
 mod run;
 mod sheet;
+mod stop;
 
 use sheet::Head;
 

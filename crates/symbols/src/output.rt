@@ -43,7 +43,7 @@ impl Output {
 
     // With room for one more line.
     fn with_room(self, out: &[u8]) -> Output {
-        let waiting = input::least(self.waiting, out.len());
+        let waiting = arith::least(self.waiting, out.len());
         if out.len() - waiting < LINE {
             return self.flushed(out);
         }
@@ -53,7 +53,7 @@ impl Output {
     // Prints so many symbols.
     pub(crate) fn with_symbols(self, places: &[i64], count: usize, out: &mut [u8]) -> Output {
         let mut left = self;
-        let most = input::least(count, places.len() / PLACES);
+        let most = arith::least(count, places.len() / PLACES);
         let mut n: usize = 0;
         while n < most {
             left = left.with_room(out);
@@ -73,7 +73,7 @@ impl Output {
     }
 
     // Prints the line that stands in its place.
-    pub(crate) fn with_refusal(self, number: u8, line: u64, out: &mut [u8]) -> Output {
+    pub(crate) fn with_refusal(self, number: u32, line: u64, out: &mut [u8]) -> Output {
         let mut left = self.with_room(out);
         left.waiting = text::put_refusal(number, line, out, left.waiting);
         left

@@ -1,10 +1,8 @@
 // The pairs, through the front end in blocks. What is printed does not depend on their size.
-use crate::input;
 use crate::input::Input;
 use crate::output::Output;
-use crate::refusal;
-use crate::refusal::Stop;
 use crate::sheet::Head;
+use crate::stop::Stop;
 use fixed::Frontend;
 use params::Params;
 use text::I16;
@@ -84,12 +82,12 @@ impl Progress {
         out: &mut [u8],
     ) -> Progress {
         let block = block_of(self.rest, self.line, values, bytes);
-        let used = input::least(block.used, values.len());
+        let used = arith::least(block.used, values.len());
         let given = self.state;
         let done = given.process(params, h, g, k, &values[0..used], places);
         let state = done.state;
         let verdict = done.verdict;
-        let number = refusal::of_frontend(verdict);
+        let number = verdict.number();
         let before = self.output;
         let output = before.with_symbols(places, done.count, out);
         let mut stop = block.stop;
@@ -137,7 +135,7 @@ pub(crate) fn run(
     let params = head.params;
     let started = Frontend::new(params, h, g, k);
     let verdict = started.verdict;
-    let number = refusal::of_verdict(verdict);
+    let number = verdict.number();
     let state = started.state;
     let mut stop = head.stop;
     if stop.is_no() && 0 < number {

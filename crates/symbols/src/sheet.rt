@@ -1,9 +1,7 @@
 // The first 193 lines: the sheet's 17 fields, and 64 rows of each bank.
 ghost use Prim.Native.Nat.{_≤_};
-use crate::input;
 use crate::input::Input;
-use crate::refusal;
-use crate::refusal::Stop;
+use crate::stop::Stop;
 use params::Params;
 use text::I16;
 use text::I32;
@@ -76,15 +74,10 @@ fn params_of(values: &[i64]) -> Params {
     }
 }
 
-// Whether nothing but the taps is wrong so far: the banks are still empty, and judging names the taps before them.
-fn has_good_taps(params: Params) -> bool {
-    refusal::of_verdict(params.validate(&[], &[], &[])) != 1
-}
-
 // Puts a row of coefficients into a bank from a place on, and says where the next begins.
 fn keep_row(values: &[i64], room: &mut [i32], from: usize) -> usize {
-    let start = input::least(from, room.len());
-    let n = input::least(values.len(), room.len() - start);
+    let start = arith::least(from, room.len());
+    let n = arith::least(values.len(), room.len() - start);
     let mut i: usize = 0;
     while i < n {
         let c = arith::wrap_i32(values[i]);
@@ -103,7 +96,7 @@ impl Head {
         let found = taken.stop;
         let stop = found.before(1);
         let params = params_of(&values);
-        if stop.is_no() && !has_good_taps(params) {
+        if stop.is_no() && !params::is_good_taps(params.taps) {
             return Head {
                 params,
                 rest,
@@ -118,7 +111,7 @@ impl Head {
         ensures { λ r. ⌜ r ≤ 4096 ⌝ }
     {
         let params = self.params;
-        input::least(params.taps as usize, 64) * 64
+        arith::least(params.taps as usize, 64) * 64
     }
 
     // With a bank, whose rows begin at this line.
@@ -128,7 +121,7 @@ impl Head {
         let mut stop = self.stop;
         let mut values = [0i64; 64];
         let kinds = [I32; 64];
-        let taps = input::least(params.taps as usize, 64);
+        let taps = arith::least(params.taps as usize, 64);
         let mut from: usize = 0;
         let mut row: u64 = 0;
         while row < ROWS && stop.is_no() {

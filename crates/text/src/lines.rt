@@ -1,25 +1,16 @@
 // A line: where it ends, and the fields that commas part it into.
 ghost use mathlib.Core.Path.{_≡_};
-ghost use Prim.Native.Nat.{_≤_, _+_, min, max};
+ghost use Prim.Native.Nat.{_≤_, _+_, max};
 ghost use lib.ListN.{length, drop, set};
 ghost use Rattle.text.specs.Line.{before, lineEndOf, numberOf, Reading};
 use crate::LONGEST;
 use crate::LineEnd;
 use crate::fields;
 
-fn least(a: usize, b: usize) -> usize
-    ensures { λ r. ⌜ r ≡ min a b ⌝ }
-{
-    if a < b {
-        return a;
-    }
-    b
-}
-
 pub fn line_end(s: &[u8]) -> LineEnd
     ensures { λ r. ⌜ r ≡ lineEndOf (now (s .entry)) ⌝ }
 {
-    let most = least(s.len(), LONGEST + 1);
+    let most = arith::least(s.len(), LONGEST + 1);
     let mut i: usize = 0;
     while i < most {
         if s[i] == b'\n' {
@@ -57,7 +48,7 @@ fn larger(a: u8, b: u8) -> u8
     a
 }
 
-fn number_of(fault: u8) -> u8
+fn number_of(fault: u8) -> u32
     ensures { λ r. ⌜ r ≡ numberOf fault ⌝ }
 {
     if fault == 0 {
@@ -80,7 +71,7 @@ fn put_value(v: i64, out: &mut [i64], n: usize)
 
 // Reads a line (without its line feed) as fields of these types, and puts their values at the start of `out`. The answer is 0, or the refusal's number: 18
 // where the line has another number of fields or one of wrong form, else 19 where a value is outside its type (document 01: the symbol program).
-pub fn read_line(s: &[u8], kinds: &[u8], out: &mut [i64]) -> u8
+pub fn read_line(s: &[u8], kinds: &[u8], out: &mut [i64]) -> u32
     ensures { λ r. ⌜ Reading (now (kinds .entry)) (now (s .entry)) (now (out .entry)) r (now (out .exit)) ⌝ }
 {
     let mut at: usize = 0;

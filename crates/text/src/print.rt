@@ -137,7 +137,7 @@ pub fn put_end(samples: u64, symbols: u64, t: i64, out: &mut [u8], at: usize) ->
 }
 
 // Prints the line that stands in place of it where the input is refused, or nothing where 52 bytes do not fit.
-pub fn put_refusal(number: u8, line: u64, out: &mut [u8], at: usize) -> usize
+pub fn put_refusal(number: u32, line: u64, out: &mut [u8], at: usize) -> usize
     ensures { λ r. ⌜ Put (roomed 52 (now (out .entry)) at (refusedOf number line)) (now (out .entry)) at r (now (out .exit)) ⌝ }
 {
     if out.len() < at {

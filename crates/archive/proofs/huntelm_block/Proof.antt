@@ -120,12 +120,12 @@ module _ (c : tie.After-process) where
       c .process .ensures ∙ ap of-p (read .before .before .before .before .before .params-of .ensures) ∙ ap of-f (read .read .ensures)
 
 -- its number, and with it the call's
-numbered : (c : tie.After-of-frontend) → c .of-frontend .result ≡ done (c .before .before) .refused .number
-numbered c = c .of-frontend .ensures ∙ ap (λ (b : Block). b .refused .number) (told (c .before .before))
+numbered : (c : tie.After-number) → c .number .result ≡ done (c .before .before) .refused .number
+numbered c = c .number .ensures ∙ ap (λ (b : Block). b .refused .number) (told (c .before .before))
 
-called : (c : tie.After-of-frontend)
+called : (c : tie.After-number)
     → let a = start (c .before .before) .args in
-    c .of-frontend .result ≡ number (a .sheet .now) (a .h .now) (a .g .now) (a .k .now) (a .state .now) (a .values .now) (a .out .now)
+    c .number .result ≡ number (a .sheet .now) (a .h .now) (a .g .now) (a .k .now) (a .state .now) (a .values .now) (a .out .now)
 called c =
     let else = c .before .before .before .before .before .before in
     then-is _ _ (readable (else .before .before .before)) (then-is _ _ (state-number _ _ (fitting else)) (numbered c))
@@ -133,14 +133,14 @@ called c =
 process-requires : tie.Need-process-requires
 process-requires c κs = search needs
 
-of-frontend-requires : tie.Need-of-frontend-requires
-of-frontend-requires c κs = search needs
+number-requires : tie.Need-number-requires
+number-requires c κs = search needs
 
 cast-result-3 : tie.Need-cast-result-3
 cast-result-3 c = search needs
 
 sub-result-3 : tie.Need-sub-result-3
-sub-result-3 c = minus-fits (c .before .of-frontend .result) (c .before .of-frontend .ok)
+sub-result-3 c = minus-fits (c .before .number .result) (c .before .number .ok)
 
 same-length-2 : tie.Need-same-length-2
 same-length-2 c = search needs
@@ -151,7 +151,7 @@ same-length-3 c = search needs
 returns-3 : tie.Need-returns-3
 returns-3 c =
     let p = c .before .before .before in
-    refuses _ _ _ _ _ _ _ (c .if3 .taken) (called (c .before)) (minus-read (c .before .of-frontend .result) (c .before .of-frontend .ok))
+    refuses _ _ _ _ _ _ _ (c .if3 .taken) (called (c .before)) (minus-read (c .before .number .result) (c .before .number .ok))
     (ap (λ (b : Block). b .output) (told p) ∙ untouched _ _ _ _ (λ z. c .if3 .taken (numbered (c .before) ∙ z)))
 
 -- nothing is refused
@@ -204,7 +204,7 @@ huntelm-block-spec =
     returns-2
     read-requires
     process-requires
-    of-frontend-requires
+    number-requires
     cast-result-3
     sub-result-3
     same-length-2

@@ -82,16 +82,16 @@ sheet-numbered (SheetError.Params e) = error-numbered e
 enum-known-verdict : tie.Need-enum-known-verdict
 enum-known-verdict c = search needs
 
-of-sheet-requires : tie.Need-of-sheet-requires
-of-sheet-requires c κs = search needs
+number-requires : tie.Need-number-requires
+number-requires c κs = search needs
 
 returns-3 : tie.Need-returns-3
 unfolding designAnswer
 returns-3 c =
     let refused = c .before .before .verdict .given in
     let designed = c .before .before .before .before in
-    let is : c .of-sheet .result ≡ refusedBy (answer designed) = c .of-sheet .ensures ∙ ap refusedBy (sym (ap sheetAnswer (refused .1)) ∙ told designed) in
-    let some : c .of-sheet .result ≡ 0 → ⊥ = λ z. omega (arith, sheet-numbered (refused .0 .0), c .of-sheet .ensures) in
+    let is : c .number .result ≡ refusedBy (answer designed) = c .number .ensures ∙ ap refusedBy (sym (ap sheetAnswer (refused .1)) ∙ told designed) in
+    let some : c .number .result ≡ 0 → ⊥ = λ z. omega (arith, sheet-numbered (refused .0 .0), c .number .ensures) in
     refuses _ _ _ some (ordered designed _ (first-is _ _ some is))
 
 -- ---- the sheet
@@ -148,7 +148,7 @@ huntelm-design-spec =
     gains-of-requires
     params-requires
     enum-known-verdict
-    of-sheet-requires
+    number-requires
     enum-known-verdict-2
     returns-2
     write-requires

@@ -23,8 +23,8 @@ params-of-requires c κs = search needs
 validate-requires : tie.Need-validate-requires
 validate-requires c κs = search needs
 
-of-verdict-requires : tie.Need-of-verdict-requires
-of-verdict-requires c κs = search needs
+number-requires : tie.Need-number-requires
+number-requires c κs = search needs
 
 returns-2 : tie.Need-returns-2
 unfolding judgeNumber
@@ -35,8 +35,8 @@ returns-2 c =
     let a = unread .before .args in
     then-is (sheetNumber (a .sheet .now)) (judged (sheetAt (a .sheet .now) (a .h .now) (a .g .now) (a .k .now)) .number)
     (sym (unread .fault .ensures) ∙ read .before .if1 .left)
-    (c .of-verdict .ensures ∙ ap (λ (r : Refusal). r .number) (judging .validate .ensures)
+    (c .number .ensures ∙ ap (λ (r : Refusal). r .number) (judging .validate .ensures)
     ∙ ap (λ (p : Params). judged (sheetOf p (a .h .now) (a .g .now) (a .k .now)) .number) (read .params-of .ensures))
 
 pub huntelm-judge-spec : {M : Type 1} → statement M
-huntelm-judge-spec = tie.close (tie.spec fault-requires returns params-of-requires validate-requires of-verdict-requires returns-2)
+huntelm-judge-spec = tie.close (tie.spec fault-requires returns params-of-requires validate-requires number-requires returns-2)

@@ -33,8 +33,8 @@ params-of-requires c κs = search needs
 offset-requires : tie.Need-offset-requires
 offset-requires c κs = search needs
 
-of-offset-requires : tie.Need-of-offset-requires
-of-offset-requires c κs = search needs
+number-requires : tie.Need-number-requires
+number-requires c κs = search needs
 
 -- a sheet that can be read
 readable : (c : tie.After-offset) → sheetNumber (c .before .before .before .before .args .sheet .now) ≡ 0
@@ -51,15 +51,15 @@ module _ (c : tie.After-offset) where
       c .offset .ensures ∙ ap (λ (p : Params). offsetOf (sheetOf p (a .h .now) (a .g .now) (a .k .now)) (a .period)) (c .before .params-of .ensures)
 
 -- its number
-number : (c : tie.After-of-offset) → c .of-offset .result ≡ answer (c .before) .refused .number
-number c = c .of-offset .ensures ∙ ap (λ (s : Parts). s .refused .number) (told (c .before))
+number : (c : tie.After-number) → c .number .result ≡ answer (c .before) .refused .number
+number c = c .number .ensures ∙ ap (λ (s : Parts). s .refused .number) (told (c .before))
 
 returns-2 : tie.Need-returns-2
 unfolding offsetAnswer
 returns-2 c = refuses _ _ _ (c .if2 .taken) (then-is _ _ (readable (c .before .before)) (first-is _ _ (c .if2 .taken) (number (c .before))))
 
 -- where both are 0, the length of the answer decides
-sized : (c : tie.After-of-offset) {n : ℕ} → c .of-offset .result ≡ 0
+sized : (c : tie.After-number) {n : ℕ} → c .number .result ≡ 0
     → let a = c .before .before .before .before .before .args in n ≡ cond (leb 1 (length (a .answer .now))) 0 11
     → n ≡ first (sheetNumber (a .sheet .now)) (first (answer (c .before) .refused .number) (cond (leb 1 (length (a .answer .now))) 0 11))
 sized c z e = then-is _ _ (readable (c .before)) (then-is _ _ (sym (number c) ∙ z) e)
@@ -97,7 +97,7 @@ huntelm-offset-spec =
     returns
     params-of-requires
     offset-requires
-    of-offset-requires
+    number-requires
     returns-2
     returns-3
     slice-set-from-parts

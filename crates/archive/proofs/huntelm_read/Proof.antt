@@ -75,8 +75,8 @@ read-requires c κs = fitting c
 read-requires-2 : tie.Need-read-requires-2
 read-requires-2 c κs = search needs
 
-of-frontend-requires : tie.Need-of-frontend-requires
-of-frontend-requires c κs = search needs
+number-requires : tie.Need-number-requires
+number-requires c κs = search needs
 
 -- what reading answers
 module _ (c : tie.After-read2) where
@@ -95,11 +95,11 @@ module _ (c : tie.After-read2) where
       c .read2 .ensures ∙ ap of-p (read .before .before .before .params-of .ensures) ∙ ap of-f (read .read .ensures)
 
 -- its number
-number : (c : tie.After-of-frontend) → c .of-frontend .result ≡ answer (c .before) .refused .number
-number c = c .of-frontend .ensures ∙ ap (λ (r : Read). r .refused .number) (told (c .before))
+number : (c : tie.After-number) → c .number .result ≡ answer (c .before) .refused .number
+number c = c .number .ensures ∙ ap (λ (r : Read). r .refused .number) (told (c .before))
 
 -- what comes before it
-ordered : (c : tie.After-of-frontend) (rest : ℕ) {n : ℕ} → n ≡ rest
+ordered : (c : tie.After-number) (rest : ℕ) {n : ℕ} → n ≡ rest
     → let a = start (c .before) .args in n ≡ first (sheetNumber (a .sheet .now)) (first (stateNumber (sheetAt (a .sheet .now) (a .h .now) (a .g .now) (a .k .now)) (a .state .now)) rest)
 ordered c rest e =
     let else = c .before .before .before in
@@ -110,7 +110,7 @@ unfolding readAnswer
 returns-3 c = refuses _ _ _ (c .if3 .taken) (ordered (c .before) _ (first-is _ _ (c .if3 .taken) (number (c .before))))
 
 -- where it is 0, the length of the answer decides
-sized : (c : tie.After-of-frontend) (places : List ℤ) {n : ℕ} → c .of-frontend .result ≡ 0 → n ≡ cond (leb 3 (length places)) 0 11
+sized : (c : tie.After-number) (places : List ℤ) {n : ℕ} → c .number .result ≡ 0 → n ≡ cond (leb 3 (length places)) 0 11
     → n ≡ first (answer (c .before) .refused .number) (cond (leb 3 (length places)) 0 11)
 sized c places z e = then-is _ _ (sym (number c) ∙ z) e
 
@@ -195,7 +195,7 @@ huntelm-read-spec =
     returns-2
     read-requires
     read-requires-2
-    of-frontend-requires
+    number-requires
     returns-3
     returns-4
     cast-answer

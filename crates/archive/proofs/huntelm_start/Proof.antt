@@ -30,8 +30,8 @@ params-of-requires c κs = search needs
 new-requires : tie.Need-new-requires
 new-requires c κs = search needs
 
-of-verdict-requires : tie.Need-of-verdict-requires
-of-verdict-requires c κs = search needs
+number-requires : tie.Need-number-requires
+number-requires c κs = search needs
 
 -- a sheet that can be read
 readable : (c : tie.After-new) → sheetNumber (c .before .before .before .before .args .sheet .now) ≡ 0
@@ -48,8 +48,8 @@ module _ (c : tie.After-new) where
       c .new .ensures ∙ ap (λ (p : Params). startOf (sheetOf p (a .h .now) (a .g .now) (a .k .now))) (c .before .params-of .ensures)
 
 -- its number
-number : (c : tie.After-of-verdict) → c .of-verdict .result ≡ answer (c .before) .refused .number
-number c = c .of-verdict .ensures ∙ ap (λ (s : Start). s .refused .number) (told (c .before))
+number : (c : tie.After-number) → c .number .result ≡ answer (c .before) .refused .number
+number c = c .number .ensures ∙ ap (λ (s : Start). s .refused .number) (told (c .before))
 
 returns-2 : tie.Need-returns-2
 unfolding startAnswer
@@ -57,7 +57,7 @@ returns-2 c =
     refuses _ _ _ (c .if2 .taken) (then-is _ _ (readable (c .before .before)) (first-is _ _ (c .if2 .taken) (number (c .before))))
 
 -- where both are 0, the length of the state's places decides
-sized : (c : tie.After-of-verdict) {n : ℕ} → c .of-verdict .result ≡ 0
+sized : (c : tie.After-number) {n : ℕ} → c .number .result ≡ 0
     → let a = c .before .before .before .before .before .args in n ≡ cond (eqb (length (a .state .now)) 186) 0 9
     → n ≡ first (sheetNumber (a .sheet .now)) (first (answer (c .before) .refused .number) (cond (eqb (length (a .state .now)) 186) 0 9))
 sized c z e = then-is _ _ (readable (c .before)) (then-is _ _ (sym (number c) ∙ z) e)
@@ -96,7 +96,7 @@ huntelm-start-spec =
     returns
     params-of-requires
     new-requires
-    of-verdict-requires
+    number-requires
     returns-2
     returns-3
     write-requires

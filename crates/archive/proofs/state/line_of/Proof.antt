@@ -1,10 +1,8 @@
 -- `archive::state::line_of` meets its contract: after n turns the first n places of the array hold the pairs of the state's places from 10 on.
--- It is filled place by place (Filling), and the whole is what those places make two by two (Twos).
-use Prim.Native.Nat.{ℕ, _+_, _*_, _-_, _≤_}
-use mathlib.Core.Path.{_≡_, refl, subst}
-use mathlib.Core.List.{List}
+-- The whole is what those places make two by two (Twos, `Taken`).
+use Prim.Native.Nat.{_+_, _*_, _-_}
+use mathlib.Core.Path.{refl}
 use native.Mathlib.Omega.{arith}
-use lib.ListN.{replicate}
 use lib.IntN.{ℤ}
 use mir.Syntax.{w32}
 use denote.Ref.{now}
@@ -12,28 +10,22 @@ use borrow.Author.Needs.{needs}
 use Rattle.arith.proofs.Bits.{held}
 use Rattle.fixed.specs.declared.Pair.{Pair}
 use Rattle.fixed.specs.Start.{noPair}
-use Rattle.fixed.proofs.Filling.{Filled, filled-none, filled-next}
-use Rattle.archive.specs.Places.{at}
 use Rattle.archive.proofs.Readable.{state-long, pair-at}
-use Rattle.archive.proofs.Twos.{filled-twos}
+use Rattle.archive.proofs.Twos.{Taken, taken-none, taken-next, taken-all}
 use Rattle.archive.proofs.state.line_of.Statement.{statement}
 use Rattle.archive.proofs.state.line_of.Tie as tie
 
 abbrev pair : ℤ → ℤ → Pair
 pair a b = record { i = a; q = b }
 
--- what place m is to hold
-abbrev placed : List ℤ → ℕ → Pair
-placed state m = pair (at state (10 + 2 * m)) (at state (11 + 2 * m))
-
 abbrev Inv-loop : tie.InvT-loop
-Inv-loop state line₀ n₀ line n = (n ≤ 64) × Filled noPair (placed state) n (replicate 64 noPair) line
+Inv-loop state line₀ n₀ line n = Taken pair noPair 10 11 64 state n line
 
 abbrev μ-loop : tie.MeasureT-loop
 μ-loop state line₀ n₀ line n = 64 - n
 
 loop-holds : tie.Need-loop-holds Inv-loop μ-loop
-loop-holds c = (omega arith, filled-none noPair (placed (c .args .state .now)) (replicate 64 noPair))
+loop-holds c = taken-none
 
 mul-i32-at : tie.Need-mul-i32-at Inv-loop μ-loop
 mul-i32-at c = search needs
@@ -67,19 +59,14 @@ loop-less c = search needs
 
 loop-again : tie.Need-loop-again Inv-loop μ-loop
 loop-again c =
-    let l = c .before .before .before .loop in
     let a = c .before .i32-at in
     let b = c .i32-at2 in
-    simp (held w32 (a .result) (a .ok), held w32 (b .result) (b .ok)) (simp (a .ensures, b .ensures) (omega arith, filled-next (l .inv .1) (omega (arith, l .inv .1 .long))))
+    simp (held w32 (a .result) (a .ok), held w32 (b .result) (b .ok)) (taken-next (c .before .before .before .loop .inv) (omega arith) (a .ensures) (b .ensures))
 
 returns : tie.Need-returns Inv-loop μ-loop
 returns c =
     let s = c .before .before in
-    let state = s .args .state .now in
-    let l = c .before .loop in
-    let all : l .n ≡ 64 = omega arith in
-    let filled = subst (λ (m : ℕ). Filled noPair (placed state) m (replicate 64 noPair) (l .line)) all (l .inv .1) in
-    filled-twos pair noPair state 10 11 64 refl refl (omega (arith, state-long state (s .pre))) filled
+    taken-all (c .before .loop .inv) (omega arith) refl (omega (arith, state-long (s .args .state .now) (s .pre)))
 
 pub line-of-spec : {M : Type 1} → statement M
 line-of-spec =

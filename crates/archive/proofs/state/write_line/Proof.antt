@@ -1,30 +1,28 @@
 -- `archive::state::write_line` meets its contract: after n turns the numbers of the first n pairs stand in the state's places from 10 on.
--- What is before them and behind them is as it was (Twos, `paste-two`).
-use Prim.Native.Nat.{_+_, _*_, _-_, _≤_}
-use mathlib.Core.Path.{_≡_, refl, _∙_}
+-- What is before them and behind them is as it was (Twos, `Put`).
+use Prim.Native.Nat.{_-_}
+use mathlib.Core.Path.{refl}
 use native.Mathlib.Omega.{arith}
-use lib.ListN.{length, getD, set, length-set}
-use lib.Seq.{paste, paste-zero}
+use lib.ListN.{getD, length-set}
 use mir.Syntax.{w32, w64}
 use mir.Val.{SFits}
 use borrow.Author.Needs.{needs}
 use Rattle.arith.proofs.Bits.{widened}
 use Rattle.fixed.specs.declared.Pair.{Pair}
 use Rattle.fixed.specs.Start.{noPair}
-use Rattle.archive.specs.State.{lineNumbers}
-use Rattle.archive.proofs.Twos.{paste-two, paste-all}
+use Rattle.archive.proofs.Twos.{Put, put-none, put-next, put-all}
 use Rattle.archive.proofs.Widths.{widens-32}
 use Rattle.archive.proofs.state.write_line.Statement.{statement}
 use Rattle.archive.proofs.state.write_line.Tie as tie
 
 abbrev Inv-loop : tie.InvT-loop
-Inv-loop state₀ line n₀ state n = (n ≤ 64) × (length state ≡ length state₀) × (state ≡ paste state₀ 10 (lineNumbers line) (2 * n))
+Inv-loop state₀ line n₀ state n = Put (λ (x : Pair). x .i) (λ (x : Pair). x .q) 10 11 64 line state₀ n state
 
 abbrev μ-loop : tie.MeasureT-loop
 μ-loop state₀ line n₀ state n = 64 - n
 
 loop-holds : tie.Need-loop-holds Inv-loop μ-loop
-loop-holds c = (search needs, refl, paste-zero (c .args .state .now) 10 (lineNumbers (c .args .t1)))
+loop-holds c = put-none
 
 mul-x : tie.Need-mul-x Inv-loop μ-loop
 mul-x c = search needs
@@ -71,26 +69,16 @@ loop-less c = search needs
 loop-again : tie.Need-loop-again Inv-loop μ-loop
 loop-again c =
     let l = c .before .before .before .before .before .before .loop in
-    let a = c .before .before .before .before .before .before .before .args in
-    let x = getD (a .t1) (l .n) noPair in
+    let x = getD (c .before .before .before .before .before .before .before .args .t1) (l .n) noPair in
     let in-i : SFits w32 (x .i) = record { sfits = search (c .struct-told2 .given) depth 40 } in
     let in-q : SFits w32 (x .q) = record { sfits = search (c .struct-told2 .given) depth 40 } in
-    let long : length (a .t1) ≡ 64 = search needs in
-    simp (widened w64 tt in-i, widened w64 tt in-q) (
-      omega arith,
-      length-set (set (l .state) (10 + 2 * l .n) (x .i)) (11 + 2 * l .n) (x .q) ∙ length-set (l .state) (10 + 2 * l .n) (x .i) ∙ l .inv .1,
-      rw (l .inv .2) (paste-two (λ (y : Pair). y .i) (λ (y : Pair). y .q) (a .state .now) 10 11 noPair (a .t1) (l .n) refl (omega arith) (omega arith)),
-    )
+    simp (widened w64 tt in-i, widened w64 tt in-q) (put-next noPair (l .inv) (omega arith) (search needs) refl (omega arith))
 
 same-length : tie.Need-same-length Inv-loop μ-loop
-same-length c = c .before .loop .inv .1
+same-length c = c .before .loop .inv .long
 
 returns : tie.Need-returns Inv-loop μ-loop
-returns c =
-    let a = c .before .before .args in
-    let l = c .before .loop in
-    let e : l .n ≡ 64 = omega arith in
-    rw e at (l .inv .2) ∙ paste-all (λ (y : Pair). y .i) (λ (y : Pair). y .q) (a .state .now) 10 (a .t1) 64 (search needs)
+returns c = put-all (c .before .loop .inv) (omega arith) (search needs)
 
 pub write-line-spec : {M : Type 1} → statement M
 write-line-spec =

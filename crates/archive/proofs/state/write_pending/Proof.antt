@@ -1,11 +1,10 @@
 -- `archive::state::write_pending` meets its contract: after n turns the numbers of the first n pairs stand in the state's places from 138 on.
--- What is before them and behind them is as it was (Twos, `paste-two`).
-use Prim.Native.Nat.{_+_, _*_, _-_, _≤_}
-use mathlib.Core.Path.{_≡_, refl, ap, _∙_}
+-- What is before them and behind them is as it was (Twos, `Put`).
+use Prim.Native.Nat.{_-_}
+use mathlib.Core.Path.{refl, ap, _∙_}
 use mathlib.Core.List.{List, _++_, append-nil}
 use native.Mathlib.Omega.{arith}
-use lib.ListN.{length, getD, set, take, length-set, drop-of-length-le}
-use lib.Seq.{paste, paste-zero}
+use lib.ListN.{getD, take, length-set, drop-of-length-le}
 use lib.IntN.{ℤ}
 use mir.Syntax.{w32, w64}
 use mir.Val.{SFits}
@@ -14,19 +13,19 @@ use Rattle.arith.proofs.Bits.{widened}
 use Rattle.fixed.specs.declared.Pending.{Pending}
 use Rattle.fixed.specs.Start.{noPending}
 use Rattle.archive.specs.State.{pendingNumbers}
-use Rattle.archive.proofs.Twos.{paste-two, paste-all}
+use Rattle.archive.proofs.Twos.{Put, put-none, put-next, put-all}
 use Rattle.archive.proofs.Widths.{widens-32}
 use Rattle.archive.proofs.state.write_pending.Statement.{statement}
 use Rattle.archive.proofs.state.write_pending.Tie as tie
 
 abbrev Inv-loop : tie.InvT-loop
-Inv-loop state₀ pending n₀ state n = (n ≤ 24) × (length state ≡ length state₀) × (state ≡ paste state₀ 138 (pendingNumbers pending) (2 * n))
+Inv-loop state₀ pending n₀ state n = Put (λ (x : Pending). x .e) (λ (x : Pending). x .err) 138 139 24 pending state₀ n state
 
 abbrev μ-loop : tie.MeasureT-loop
 μ-loop state₀ pending n₀ state n = 24 - n
 
 loop-holds : tie.Need-loop-holds Inv-loop μ-loop
-loop-holds c = (search needs, refl, paste-zero (c .args .state .now) 138 (pendingNumbers (c .args .t1)))
+loop-holds c = put-none
 
 mul-x : tie.Need-mul-x Inv-loop μ-loop
 mul-x c = search needs
@@ -73,27 +72,19 @@ loop-less c = search needs
 loop-again : tie.Need-loop-again Inv-loop μ-loop
 loop-again c =
     let l = c .before .before .before .before .before .before .loop in
-    let a = c .before .before .before .before .before .before .before .args in
-    let x = getD (a .t1) (l .n) noPending in
+    let x = getD (c .before .before .before .before .before .before .before .args .t1) (l .n) noPending in
     let in-e : SFits w32 (x .e) = record { sfits = search (c .struct-told2 .given) depth 40 } in
     let in-err : SFits w32 (x .err) = record { sfits = search (c .struct-told2 .given) depth 40 } in
-    let long : length (a .t1) ≡ 24 = search needs in
-    simp (widened w64 tt in-e, widened w64 tt in-err) (
-      omega arith,
-      length-set (set (l .state) (138 + 2 * l .n) (x .e)) (139 + 2 * l .n) (x .err) ∙ length-set (l .state) (138 + 2 * l .n) (x .e) ∙ l .inv .1,
-      rw (l .inv .2) (paste-two (λ (y : Pending). y .e) (λ (y : Pending). y .err) (a .state .now) 138 139 noPending (a .t1) (l .n) refl (omega arith) (omega arith)),
-    )
+    simp (widened w64 tt in-e, widened w64 tt in-err) (put-next noPending (l .inv) (omega arith) (search needs) refl (omega arith))
 
 same-length : tie.Need-same-length Inv-loop μ-loop
-same-length c = c .before .loop .inv .1
+same-length c = c .before .loop .inv .long
 
 returns : tie.Need-returns Inv-loop μ-loop
 returns c =
     let a = c .before .before .args in
-    let l = c .before .loop in
-    let e : l .n ≡ 24 = omega arith in
     let y = pendingNumbers (a .t1) in
-    rw e at (l .inv .2) ∙ paste-all (λ (y : Pending). y .e) (λ (y : Pending). y .err) (a .state .now) 138 (a .t1) 24 (search needs)
+    put-all (c .before .loop .inv) (omega arith) (search needs)
     ∙ ap (λ (rest : List ℤ). take 138 (a .state .now) ++ (y ++ rest)) (drop-of-length-le (a .state .now) {i = 186} (omega arith))
     ∙ ap (λ (rest : List ℤ). take 138 (a .state .now) ++ rest) (append-nil y)
 

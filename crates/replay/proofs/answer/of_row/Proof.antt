@@ -15,7 +15,7 @@ i64-of-requires c κs = search needs
 
 returns : tie.Need-returns
 returns c =
-    simp (held w64 (c .i64-of .result) (c .i64-of .ok), toZ-ofZ (c .before .fits .number), toZ-ofZ (c .before .fits .carried), toZ-pos w64 {n = c .before .args .bank} (omega arith))
+    simp (held w64 (c .i64-of .result) (c .i64-of .ok), toZ-ofZ (c .before .fits .carried), toZ-pos w64 {n = c .before .args .bank} (omega arith))
     (simp (c .i64-of .ensures))
 
 pub of-row-spec : {M : Type 1} → statement M

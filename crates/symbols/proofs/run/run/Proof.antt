@@ -17,8 +17,8 @@ abbrev μ-loop : tie.MeasureT-loop
 new-requires : tie.Need-new-requires Inv-loop μ-loop
 new-requires c κs = search needs
 
-of-verdict-requires : tie.Need-of-verdict-requires Inv-loop μ-loop
-of-verdict-requires c κs = search needs
+number-requires : tie.Need-number-requires Inv-loop μ-loop
+number-requires c κs = search needs
 
 is-no-requires : tie.Need-is-no-requires Inv-loop μ-loop
 is-no-requires c κs = search needs
@@ -69,7 +69,7 @@ run-spec =
     Inv-loop
     μ-loop
     new-requires
-    of-verdict-requires
+    number-requires
     is-no-requires
     new-requires-2
     loop-holds
