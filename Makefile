@@ -7,6 +7,7 @@
 # make archive   writes target/staticlib/libarchive.a, for C and Rust to link
 # make examples  runs an example in C, one in Rust and the symbol program on a recording, and compares their lists with the stored one
 # make bindings  tests the C header and the Rust bindings
+# make clean     removes all that was made
 #
 # Needed: the Rattle kit (its command rt) and a POSIX shell; for `make oracle` and `make bench` cargo, and the sources of isdb-rs at ISDB_RS; for `make examples`
 # and `make bindings` a C compiler and cargo.
