@@ -5,8 +5,9 @@
 # make oracle    compares this code with the Rust front end of isdb-rs
 # make bench     measures both in one run and prints how many times as fast this one is; with WRITE=1 it also writes docs/BENCH.md
 # make archive   writes target/staticlib/libarchive.a, for C and Rust to link
-# make examples  runs an example in C and one in Rust on a recording, and compares their lists with the stored one
+# make examples  runs an example in C, one in Rust and the symbol program on a recording, and compares their lists with the stored one
 # make bindings  tests the C header and the Rust bindings
+# make clean     removes all that was made
 #
 # Needed: the Rattle kit (its command rt) and a POSIX shell; for `make oracle` and `make bench` cargo, and the sources of isdb-rs at ISDB_RS; for `make examples`
 # and `make bindings` a C compiler and cargo.
@@ -52,16 +53,16 @@ archive: kit
 bench: archive symbols
 	@RT='$(RT)' ISDB_RS='$(ISDB_RS)' WRITE='$(WRITE)' sh bench/measure.sh
 
-examples: archive
+examples: archive symbols
 	@CC='$(CC)' sh examples/compare.sh
 
 bindings: archive
-	@command -v $(CC) >/dev/null || { echo "$(CC), a C compiler, is not here: the header was not tested"; exit 1; }
+	@command -v $(firstword $(CC)) >/dev/null || { echo "$(CC), a C compiler, is not here: the header was not tested"; exit 1; }
 	@command -v cargo >/dev/null || { echo "cargo is not here: the Rust bindings were not tested"; exit 1; }
 	@echo "The archive's calls through include/huntelm.h, from C:"
 	@$(CC) -std=c99 -O2 -Wall -Wextra -Wpedantic -Werror -Iinclude -o target/header tests/header.c target/staticlib/libarchive.a
 	@target/header
-	@if command -v $(CXX) >/dev/null; then \
+	@if command -v $(firstword $(CXX)) >/dev/null; then \
 		echo "The same from C++:"; \
 		$(CXX) -x c++ -std=c++11 -O2 -Wall -Wextra -Wpedantic -Werror -Iinclude -o target/header tests/header.c -x none target/staticlib/libarchive.a && target/header; \
 	else echo "$(CXX), a C++ compiler, is not here: from C++ nothing was tested"; fi

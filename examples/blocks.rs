@@ -29,7 +29,7 @@ fn main() -> ExitCode {
     };
     let mut output = BufWriter::new(io::stdout().lock());
     let done = run(name, &mut output);
-    let written = output.flush().map_err(Into::into);
+    let written = output.flush().map_err(unwritten);
     match done.and(written) {
         Ok(()) => ExitCode::SUCCESS,
         Err(e) => {
@@ -52,15 +52,19 @@ fn run(name: &str, output: &mut impl Write) -> Result<(), Box<dyn Error>> {
             .process(&block, &mut symbols)
             .map_err(|refusal| recording.fault(refusal))?;
         for symbol in &symbols {
-            print_symbol(symbol, output)?;
+            print_symbol(symbol, output).map_err(unwritten)?;
         }
         if !more? {
             break;
         }
     }
     let (samples, count, t) = (front.samples(), front.symbols(), front.time());
-    writeln!(output, "end,{samples},{count},{t}")?;
-    Ok(())
+    writeln!(output, "end,{samples},{count},{t}").map_err(unwritten)
+}
+
+/// An error of the output, with where it is.
+fn unwritten(e: io::Error) -> Box<dyn Error> {
+    format!("standard output: {e}").into()
 }
 
 fn print_symbol(symbol: &Symbol, output: &mut impl Write) -> io::Result<()> {

@@ -1,5 +1,6 @@
 #!/bin/sh
-# Builds both examples over the archive, runs them and the symbol program on recording.csv, and compares what each prints with symbols.txt. Run it as `make examples`.
+# Builds both examples over the archive, runs them and the symbol program on recording.csv, and compares what each prints with symbols.txt. Run it as
+# `make examples`, which proves and links the archive and the program.
 set -eu
 cd "$(dirname "$0")/.."
 : "${CC:=cc}"
@@ -26,8 +27,8 @@ absent() {
     echo "examples: $1"
 }
 
-if command -v "$CC" >/dev/null; then
-    "$CC" -std=c99 -O2 -Wall -Wextra -Wpedantic -Iinclude -o $work/one_by_one examples/one_by_one.c target/staticlib/libarchive.a
+if command -v "${CC%% *}" >/dev/null; then
+    $CC -std=c99 -O2 -Wall -Wextra -Wpedantic -Iinclude -o $work/one_by_one examples/one_by_one.c target/staticlib/libarchive.a
     $work/one_by_one $recording >$work/printed || failed=1
     agrees "one_by_one.c, one sample after another"
 else
@@ -42,10 +43,6 @@ else
     absent "cargo is not here: blocks.rs was not run"
 fi
 
-if [ -x target/bin/symbols ]; then
-    target/bin/symbols <$recording >$work/printed || failed=1
-    agrees "the symbol program"
-else
-    echo "examples: the symbol program is not built, so it was not compared; make run builds it"
-fi
+target/bin/symbols <$recording >$work/printed || failed=1
+agrees "the symbol program"
 exit $failed

@@ -161,8 +161,9 @@ int main(int words, char **word) {
     }
     status = run(&r);
     fclose(r.file);
+    /* A write that failed earlier has left its mark on the stream, but no longer its reason. */
     if (fflush(stdout) != 0 || ferror(stdout)) {
-        fprintf(stderr, "standard output: %s\n", strerror(errno));
+        fprintf(stderr, "standard output: the list could not be written\n");
         return 1;
     }
     return status;

@@ -60,8 +60,9 @@ enum huntelm_refusal {
     HUNTELM_REFUSED_RANGE = 7,               /* another field outside the range that its place below has */
     HUNTELM_REFUSED_AGC_SHIFT = 8,           /* agc_shift above 63 */
 
-    /* Of a block. */
-    HUNTELM_REFUSED_STATE = 9,               /* not 186 places, or a position, count or register outside its bounds under the sheet */
+    /* Of states, samples and buffers. */
+    HUNTELM_REFUSED_STATE = 9,               /* not 186 places, a number that its place does not take, or a position, count or register outside its bounds
+                                                under the sheet */
     HUNTELM_REFUSED_ODD_INPUT = 10,          /* an odd number of sample values, or of floats */
     HUNTELM_REFUSED_SHORT_OUTPUT = 11,       /* fewer places than the answer may take */
     HUNTELM_REFUSED_TOO_MANY_SAMPLES = 12,   /* more than 2^63 - 1 samples in all */

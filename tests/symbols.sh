@@ -3,7 +3,7 @@
 # Prints 'N cases, M wrong', and before it each case that is wrong. Needs nothing but a POSIX shell and its usual tools.
 set -u
 program=${1:-target/bin/symbols}
-[ -x "$program" ] || { echo "no $program: run 'rt check symbols' first" >&2; exit 2; }
+[ -x "$program" ] || { echo "no $program: run 'make symbols' first" >&2; exit 2; }
 dir=$(mktemp -d) || exit 2
 trap 'rm -rf "$dir"' EXIT
 cases=0

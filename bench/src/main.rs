@@ -10,23 +10,34 @@ use oracle::sheet::Sheet as Fields;
 use programs::Programs;
 use std::hint::black_box;
 use std::io;
+use std::process::ExitCode;
 use std::time::{Duration, Instant};
 
 /// Rounds of each measurement, and pairs in a round.
 const ROUNDS: usize = 9;
 const PAIRS: usize = 1 << 18;
 
-fn main() -> io::Result<()> {
+fn main() -> ExitCode {
     let words: Vec<String> = std::env::args().skip(1).collect();
     let [ours, theirs, input] = &words[..] else {
-        let usage = "bench SYMBOLS ORACLE INPUT: the two programs, and a file for what they read";
-        return Err(io::Error::other(usage));
+        eprintln!("bench SYMBOLS ORACLE INPUT: the two programs, and a file for what they read");
+        return ExitCode::FAILURE;
     };
     let programs = Programs {
         ours,
         theirs,
         input,
     };
+    match measure(&programs) {
+        Ok(()) => ExitCode::SUCCESS,
+        Err(e) => {
+            eprintln!("bench: {e}");
+            ExitCode::FAILURE
+        }
+    }
+}
+
+fn measure(programs: &Programs) -> io::Result<()> {
     println!(
         "ns a sample pair, ISDB-S at 40 MHz: isdb-rs, this front end, and how many times as fast it is"
     );

@@ -23,10 +23,20 @@ impl Programs<'_> {
     pub fn times(&self, p: &Params) -> io::Result<(f64, f64)> {
         self.write_input(p)?;
         let printed = |mut program: Command| -> io::Result<Vec<u8>> {
-            Ok(program.stdin(File::open(self.input)?).output()?.stdout)
+            program.stdin(File::open(self.input)?);
+            let name = program.get_program().display().to_string();
+            let done = program.output();
+            Ok(done.map_err(|e| told(&name, e))?.stdout)
         };
         let list = printed(self.ours())?;
-        if list != printed(self.theirs())? || !is_whole(&list) {
+        if !is_whole(&list) {
+            let message = format!(
+                "{} does not print a whole list of {}",
+                self.ours, self.input
+            );
+            return Err(io::Error::other(message));
+        }
+        if list != printed(self.theirs())? {
             let message = format!("{} and {} print different lists", self.ours, self.theirs);
             return Err(io::Error::other(message));
         }
@@ -52,13 +62,19 @@ impl Programs<'_> {
     }
 
     fn write_input(&self, p: &Params) -> io::Result<()> {
-        let mut file = BufWriter::new(File::create(self.input)?);
+        let file = File::create(self.input).map_err(|e| told(self.input, e))?;
+        let mut file = BufWriter::new(file);
         Sheet::designed(p).write_rows(&mut file)?;
         for pair in noise(PAIRS).chunks(2) {
             writeln!(file, "{},{}", pair[0], pair[1])?;
         }
         file.flush()
     }
+}
+
+/// An error with what it befell.
+fn told(name: &str, e: io::Error) -> io::Error {
+    io::Error::new(e.kind(), format!("{name}: {e}"))
 }
 
 /// Whether a list's last line says that it is whole.

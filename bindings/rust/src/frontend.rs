@@ -1,3 +1,5 @@
+//! The front end and its symbols: the archive keeps nothing between calls, so the state and the sheet that it goes with are kept here.
+
 use crate::archive::{SHEET, STATE, STATE_SAMPLES, STATE_T, SYMBOL};
 use crate::{Params, Refusal};
 

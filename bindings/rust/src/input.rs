@@ -1,3 +1,5 @@
+//! Float samples.
+
 use crate::archive;
 
 /// A float sample as the front end takes it, I then Q: each component times 2048, rounded to the nearest with ties away from zero, clamped

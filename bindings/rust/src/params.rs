@@ -1,3 +1,5 @@
+//! The sheet with its banks, and designs of which a sheet is made.
+
 use crate::Refusal;
 use crate::archive::{self, SHEET, Sheet};
 

@@ -1,3 +1,5 @@
+//! Refusals: the numbers that the archive answers, with a name and a text for each.
+
 use std::error::Error;
 use std::fmt;
 

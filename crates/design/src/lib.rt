@@ -13,17 +13,16 @@ ghost use Rattle.design.specs.Design.{goodSps, goodTrim, designOf, param
 
 // What a receiver is built for (document 01: a design).
 pub struct Design {
-    // Input sample rate, Hz.
+    // Samples and symbols a second.
     pub sample_rate: f64,
-    // Symbol rate, baud.
     pub symbol_rate: f64,
-    // Carrier offset of the input to remove, Hz.
+    // How far the carrier is off, in Hz: the mixer turns it back.
     pub carrier_offset: f64,
-    // Output instant relative to where the timing loop locks, in symbol periods.
+    // Where the output is taken, in symbols from where the loop settles: -0.5 to 0.5. Only a design's banks depend on it, and no register.
     pub trim: f64,
     // Level that the gain loop holds, as a fraction of 16 bits' full scale.
     pub agc_rms: f64,
-    // Taps of a row, bits of an output component, and log2 of the block length in symbols.
+    // Taps of a row, bits of an output component, and log2 of a block's symbols.
     pub taps: u32,
     pub bits: u8,
     pub block_log2: u8,
@@ -141,7 +140,7 @@ fn is_good_trim(trim: f64) -> bool
 }
 
 impl Design {
-    // Input samples per symbol.
+    // Samples from one symbol to the next.
     pub fn sps(self) -> f64
         ensures { λ r. ⌜ r ≡ spsOf self ⌝ }
     {

@@ -1,6 +1,6 @@
 -- What a block keeps goes on standing for the state: through a sample that joins the line, through a symbol, and through a sample without one.
 -- The arrays change at the places at which the line and the queue change, and registers and positions are the state's own.
-use Prim.Native.Nat.{ℕ, _+_, _-_, _*_, _/_, _%_, _^_, _≤_, _<_}
+use Prim.Native.Nat.{ℕ, _+_, _*_, _/_, _%_, _^_, _≤_, _<_}
 use mathlib.Core.Path.{_≡_, refl, sym, ap, subst, _∙_}
 use mathlib.Core.Bool.{Bool, true, false, cond}
 use mathlib.Core.List.{List, [], _∷_}

@@ -1,5 +1,5 @@
 -- What a symbol does to the six loop registers, of any registers and any sheet: they are changed as one group, or left as they are.
--- (Document 01: "The six loop registers are changed as one group".)
+-- (Document 01, 'A sample's way', a symbol: the six loop registers.)
 use Prim.Native.Nat.{_+_}
 use mathlib.Core.Bool.{Bool, true, false, cond, _&&_}
 use lib.Dec.{ltb}

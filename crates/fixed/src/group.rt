@@ -1,4 +1,4 @@
-// The six loop registers as one group: what a symbol does to them, whatever they hold (document 01: "The six loop registers are changed as one group").
+// The six loop registers as one group: what a symbol does to them, whatever they hold (document 01: the six loop registers).
 use crate::AfterSymbol;
 use crate::Pending;
 use crate::Registers;

@@ -1,4 +1,4 @@
--- The front end's input sample, from floats at full scale ±1.
+-- What the front end takes of a float sample, whose full scale is ±1.
 -- (Document 01, 'A float sample'.)
 use mathlib.Core.Bool.{false}
 use lib.IntN.{ℤ, pos}

@@ -1,4 +1,4 @@
-// The front end's input sample from a float one, as recordings have them.
+// Float samples, as some recordings have them, made into what the front end takes.
 ghost use mathlib.Core.Path.{_≡_};
 ghost use Rattle.input.specs.Input.{componentOf, sampleOf};
 

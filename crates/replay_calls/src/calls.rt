@@ -1,4 +1,4 @@
-// What the rows do: some are kept for the calls to come, the others make a call on what is in force and have its answer (oracle/README.md, 'Calls').
+// What the rows do: some are kept for the calls to come, the others make a call on what is in force and have its answer (oracle/README.md, 'Rows of calls').
 use crate::answer;
 use crate::sheet::Sheet;
 use crate::state;

@@ -34,7 +34,7 @@ unfoldable pub taken : Sheet → Frontend → List Call → List Pair
 taken s f [] = []
 taken s f (c ∷ cs) = takenBy s f c ++ taken s (answer s f c .state) cs
 
--- The first 20 × count places that each call wrote, joined in order. A refused call counts none.
+-- What the calls wrote, 20 places for each symbol that they counted, one call's behind the other's. A refused call counts none.
 unfoldable pub written : Sheet → Frontend → List Call → List ℤ
 written s f [] = []
 written s f (c ∷ cs) = take (20 * answer s f c .count) (answer s f c .output) ++ written s (answer s f c .state) cs

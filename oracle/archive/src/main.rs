@@ -15,10 +15,9 @@ use std::process::ExitCode;
 use tally::Tally;
 
 fn main() -> ExitCode {
-    let words: Vec<String> = std::env::args().skip(1).collect();
-    let numbers: Vec<u64> = words.iter().filter_map(|w| w.parse().ok()).collect();
-    let [seed, samples] = numbers[..] else {
-        eprintln!("compare SEED SAMPLES");
+    let numbers: Result<Vec<u64>, _> = std::env::args().skip(1).map(|w| w.parse()).collect();
+    let Ok(&[seed, samples]) = numbers.as_deref() else {
+        eprintln!("compare SEED SAMPLES: two numbers");
         return ExitCode::FAILURE;
     };
     let mut tally = Tally::default();

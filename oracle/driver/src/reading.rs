@@ -55,7 +55,7 @@ impl<'a> Reading<'a> {
         &self.refusal
     }
 
-    /// The offset of a period in parts per thousand million, rounded down, and the number of the refusal or 0.
+    /// How far a period lies from the nominal one, in thousand millionths of that, rounded down; and the number of the refusal or 0.
     pub fn offset(&self, period: u32) -> (i64, i64) {
         let sheet = self.sheet;
         if let Some(number) = self.refusal.first() {

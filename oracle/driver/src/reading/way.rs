@@ -105,7 +105,7 @@ fn sixteen(v: i128) -> i128 {
     v.clamp(-32768, 32767)
 }
 
-/// Reduced to 32 bits signed modulo 2^32.
+/// The number of 32 bits and a sign that differs from v by a multiple of 2^32.
 fn signed(v: i128) -> i128 {
     (v + (1 << 31)).rem_euclid(1 << 32) - (1 << 31)
 }

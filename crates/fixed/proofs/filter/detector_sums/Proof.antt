@@ -2,15 +2,15 @@
 -- The rows are as long as the line's part, so one count serves both, and so do the line's own sums.
 use Prim.Native.Nat.{ℕ, _-_, _^_, _≤_, _<_}
 use mathlib.Core.Path.{_≡_, sym, _∙_, subst}
-use mathlib.Core.List.{List, [], _∷_}
+use mathlib.Core.List.{[], _∷_}
 use native.Mathlib.Omega.{arith}
 use lib.ListN.{length, getD}
-use lib.IntN.{ℤ, pos, natAbs}
+use lib.IntN.{pos, natAbs}
 use mir.Syntax.{w32}
 use mir.Val.{toZ, ofZ}
 use borrow.Author.Needs.{needs}
 use Rattle.arith.proofs.Bits.{held}
-use Rattle.fixed.specs.Inside.{Row, sumsOver}
+use Rattle.fixed.specs.Inside.{sumsOver}
 use Rattle.fixed.proofs.RowSums.{Taken, taken-none, taken-more, taken-small, taken-all, Level, level-none, level-more, level-small, light-each}
 use Rattle.fixed.proofs.filter.detector_sums.Statement.{statement}
 use Rattle.fixed.proofs.filter.detector_sums.Tie as tie

@@ -9,7 +9,6 @@ use lib.Signed.{nonNeg}
 use mir.Syntax.{w32, w64}
 use mir.Val.{Fits, SFits, toZ, ofZ}
 use mir.Facts.{toZ-ofZ, fits-widen}
-use borrow.Author.Needs.{needs}
 use Rattle.arith.proofs.Magnitude.{abs-add}
 use Rattle.arith.proofs.Order.{abs-pn, add-pn, unsign}
 use Rattle.arith.proofs.Bits.{sfit, back}

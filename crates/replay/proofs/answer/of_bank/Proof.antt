@@ -1,5 +1,4 @@
 -- `replay::answer::of_bank` meets its contract: 8 bits unsigned are the same as 64 bits signed.
-use mathlib.Core.Path.{_≡_}
 use mir.Syntax.{w64}
 use mir.Facts.{toZ-pos}
 use native.Mathlib.Omega.{arith}

@@ -1,7 +1,7 @@
 -- `replay::rows::i64_of` meets its contract: below 2^63 the bits say the same, and a number of 2^63 or more lies at most 2^63 - 1 below the largest.
-use Prim.Native.Nat.{ℕ, _<_, _≤_, _-_}
+use Prim.Native.Nat.{ℕ, _≤_, _-_}
 use native.Mathlib.Omega.{arith}
-use lib.IntN.{pos, negsuc}
+use lib.IntN.{negsuc}
 use mir.Syntax.{w64}
 use mir.Val.{SFits}
 use mir.Facts.{toZ-ofZ, toZ-pos}

@@ -1,5 +1,5 @@
 -- `replay::answer::Answer::is` meets its contract: its tests are the definition's, in the same order. Two numbers are the same where their bits are.
-use Prim.Native.Nat.{ℕ, _^_, _<_}
+use Prim.Native.Nat.{_^_, _<_}
 use mathlib.Core.Path.{_≡_, sym, ap, _∙_}
 use mathlib.Core.Bool.{true, false}
 use lib.IntN.{ℤ, pos}
