@@ -1,15 +1,14 @@
 -- ℤ for `omega`, which reads only ℕ. A number z is P z - N z, one of the two being 0: sums, tests, ranges and shifts become linear facts about
 -- P and N, and an equation or an order of ℤ follows from one of ℕ.
-use Prim.Native.Nat.{ℕ, zero, suc, _+_, _*_, _/_, _^_, _≤_, _<_}
+use Prim.Native.Nat.{ℕ, zero, suc, _+_, _^_, _≤_, _<_}
 use mathlib.Core.Path.{_≡_, refl, sym, ap, subst}
 use mathlib.Core.Bool.{Bool, true, false, not, cond}
-use native.Mathlib.Nat.{div-add-mod, mod-lt, mul-suc}
 use native.Mathlib.Omega.{arith}
 use lib.Dec.{T}
 use lib.Pow.{pow-pos}
 use lib.IntN.{ℤ, pos, negsuc, negℤ, natAbs, subℕ, _+ℤ_, _-ℤ_}
-use lib.Signed.{mag, nonNeg, ltZ, leZ, shrZ}
-use borrow.Author.Tests.{ltb-true, ltb-false, leb-true, lt-ltb, le-ltb, le-leb, lt-leb}
+use lib.Signed.{mag, nonNeg, ltZ, leZ}
+use borrow.Author.Tests.{ltb-true, ltb-false, leb-true, le-leb, lt-leb}
 use mir.Syntax.{Width}
 use mir.Val.{SFits, Fits, hbits, bits}
 use Rattle.arith.specs.Arith.{clampZ}
@@ -69,18 +68,6 @@ ge-pn (pos a) (pos b) e = omega (arith, ltb-false a b e)
 ge-pn (pos a) (negsuc b) e = omega arith
 ge-pn (negsuc a) (pos b) e = absurd (subst (λ (t : Bool). T (not t)) (sym e) tt)
 ge-pn (negsuc a) (negsuc b) e = omega (arith, ltb-false b a e)
-
-pub pn-lt : (a b : ℤ) → P a + N b < P b + N a → ltZ a b ≡ true
-pn-lt (pos a) (pos b) h = lt-ltb a b (omega arith)
-pn-lt (pos a) (negsuc b) h = let z : ⊥ = omega arith in absurd z
-pn-lt (negsuc a) (pos b) h = refl
-pn-lt (negsuc a) (negsuc b) h = lt-ltb b a (omega arith)
-
-pub pn-ge : (a b : ℤ) → P b + N a ≤ P a + N b → ltZ a b ≡ false
-pn-ge (pos a) (pos b) h = le-ltb a b (omega arith)
-pn-ge (pos a) (negsuc b) h = refl
-pn-ge (negsuc a) (pos b) h = let z : ⊥ = omega arith in absurd z
-pn-ge (negsuc a) (negsuc b) h = le-ltb b a (omega arith)
 
 pub le-pn : (a b : ℤ) → leZ a b ≡ true → P a + N b ≤ P b + N a
 le-pn (pos a) (pos b) e = omega (arith, leb-true a b e)
@@ -163,11 +150,3 @@ pn-fit {w} {z = negsuc n} p q = record { sfits = omega arith }
 pub unsign : (w : Width) (z : ℤ) → N z ≤ P z → P z < 2 ^ bits w + N z → T (nonNeg z) × Fits w (natAbs z)
 unsign w (pos n) p q = (tt, record { fits = omega arith })
 unsign w (negsuc n) p q = let z : ⊥ = omega arith in absurd z
-
--- ---- a shift right rounds down: m × (z >> k) ≤ z < m × (z >> k) + m, with m = 2 ^ k
-
-pub shr-pn : (z : ℤ) (k : ℕ)
-    → (2 ^ k * P (shrZ z (2 ^ k)) + N z ≤ P z + 2 ^ k * N (shrZ z (2 ^ k)))
-    × (P z + 2 ^ k * N (shrZ z (2 ^ k)) < 2 ^ k * P (shrZ z (2 ^ k)) + N z + 2 ^ k)
-shr-pn (pos a) k = omega (arith, div-add-mod a (2 ^ k), mod-lt a (pow-pos k))
-shr-pn (negsuc a) k = omega (arith, div-add-mod a (2 ^ k), mod-lt a (pow-pos k), mul-suc (2 ^ k) (a / 2 ^ k))

@@ -28,8 +28,5 @@ mul-add k a b = *ℤ-comm k (a +ℤ b) ∙ add-mul a b k ∙ ap (λ (z : ℤ). z
 only : (x a b : ℤ) → x +ℤ b ≡ a → x ≡ a -ℤ b
 only x a b e = sym (+ℤ-negℤ-cancel x b) ∙ ap (λ (z : ℤ). z -ℤ b) e
 
-pub minus-mul : (a b k : ℤ) → (a -ℤ b) *ℤ k ≡ a *ℤ k -ℤ b *ℤ k
-minus-mul a b k = only ((a -ℤ b) *ℤ k) (a *ℤ k) (b *ℤ k) (sym (add-mul (a -ℤ b) b k) ∙ ap (λ (z : ℤ). z *ℤ k) (-ℤ-+ℤ-cancel a b))
-
 pub mul-minus : (k a b : ℤ) → k *ℤ (a -ℤ b) ≡ k *ℤ a -ℤ k *ℤ b
 mul-minus k a b = only (k *ℤ (a -ℤ b)) (k *ℤ a) (k *ℤ b) (sym (mul-add k (a -ℤ b) b) ∙ ap (λ (z : ℤ). k *ℤ z) (-ℤ-+ℤ-cancel a b))

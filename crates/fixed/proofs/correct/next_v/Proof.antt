@@ -3,7 +3,7 @@
 use Prim.Native.Nat.{_^_, _<_}
 use mathlib.Core.Path.{_≡_, _∙_}
 use native.Mathlib.Omega.{arith}
-use lib.IntN.{ℤ, natAbs, _+ℤ_, _*ℤ_, +ℤ-idl}
+use lib.IntN.{natAbs, _+ℤ_, _*ℤ_, +ℤ-idl}
 use mir.Syntax.{w16, w32, w64}
 use mir.Val.{SFits}
 use mir.Facts.{toZ-ofZ}
