@@ -19,6 +19,8 @@ fi
 cat "$work/table"
 [ -n "$WRITE" ] || exit 0
 
+# Asked before docs/BENCH.md is opened for writing, which would itself count as a change.
+code=$(git describe --always --dirty 2>/dev/null || echo 'not in a repository')
 {
     cat <<END
 # Measurements
@@ -29,7 +31,7 @@ cat "$work/table"
 |---|---|
 | machine | $(sed -n 's/^model name[^:]*: //p' /proc/cpuinfo | head -n 1), $(grep -c '^processor' /proc/cpuinfo) processors |
 | date | $(date -u +%Y-%m-%d) |
-| code | $(git describe --always --dirty 2>/dev/null || echo 'not in a repository') |
+| code | $code |
 | kit | $($RT version) |
 | isdb-rs | commit 754ed06c49, by $(rustc --version), opt-level 3 |
 
