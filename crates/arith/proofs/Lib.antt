@@ -5,3 +5,5 @@ pub mod Products
 pub mod Bits
 pub mod Rounding
 pub mod Modulus
+pub mod Widths
+pub mod Tested
