@@ -1,4 +1,4 @@
--- `fixed::make::amplify` meets its contract: each component is the one that its call answers, and 16 bits hold it.
+-- `symbol::make::amplify` meets its contract: each component is the one that its call answers, and 16 bits hold it.
 use mathlib.Core.Path.{_≡_, ap, _∙_}
 use lib.IntN.{ℤ, pos, _*ℤ_}
 use mir.Syntax.{w16}
@@ -7,8 +7,8 @@ use mir.Facts.{toZ-ofZ}
 use borrow.Author.Needs.{needs}
 use Rattle.arith.specs.Arith.{roundShift, sat16Z}
 use Rattle.arith.proofs.Bits.{held}
-use Rattle.fixed.proofs.make.amplify.Statement.{statement}
-use Rattle.fixed.proofs.make.amplify.Tie as tie
+use Rattle.symbol.proofs.make.amplify.Statement.{statement}
+use Rattle.symbol.proofs.make.amplify.Tie as tie
 
 i-fits : (c : tie.After-struct-told) → SFits w16 (c .before .args .x .i)
 i-fits c = record { sfits = search (c .struct-told .given) }

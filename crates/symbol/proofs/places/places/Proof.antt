@@ -1,4 +1,4 @@
--- `fixed::block::places` meets its contract: the casts only widen, so each place holds the number itself.
+-- `symbol::places::places` meets its contract: the casts only widen, so each place holds the number itself.
 -- What the fields of a symbol hold fits their own widths.
 use Prim.Native.Nat.{_≤_, _<_}
 use mathlib.Core.Path.{_≡_}
@@ -11,11 +11,11 @@ use mir.Val.{Fits, SFits, toZ, ofZ}
 use mir.Facts.{toZ-pos}
 use borrow.Author.Needs.{needs}
 use Rattle.arith.proofs.Bits.{widens, widened}
-use Rattle.fixed.specs.declared.Output.{Output}
-use Rattle.fixed.specs.declared.Symbol.{Symbol}
-use Rattle.fixed.specs.Symbol.{placesOf}
-use Rattle.fixed.proofs.block.places.Statement.{statement}
-use Rattle.fixed.proofs.block.places.Tie as tie
+use Rattle.symbol.specs.declared.Output.{Output}
+use Rattle.symbol.specs.declared.Symbol.{Symbol}
+use Rattle.symbol.specs.Places.{placesOf}
+use Rattle.symbol.proofs.places.places.Statement.{statement}
+use Rattle.symbol.proofs.places.places.Tie as tie
 
 -- ---- the casts
 

@@ -1,4 +1,4 @@
--- `fixed::make::agc_error` meets its contract: two squares of 16-bit numbers add up to at most 2^31, and so their sum, shifted right, is far from the ends of 64 bits.
+-- `symbol::make::agc_error` meets its contract: two squares of 16-bit numbers add up to at most 2^31, and so their sum, shifted right, is far from the ends of 64 bits.
 -- The difference from an unsigned number of 32 bits is too, and `wrap_i32` takes any.
 use Prim.Native.Nat.{ℕ, _^_, _≤_}
 use mathlib.Core.Path.{_≡_, sym, ap, _∙_, subst}
@@ -12,10 +12,10 @@ use borrow.Author.Needs.{needs}
 use Rattle.arith.specs.Arith.{wrapI32}
 use Rattle.arith.proofs.Magnitude.{abs-minus, abs-shr}
 use Rattle.arith.proofs.Bits.{sfit, back, held, widens, whole}
-use Rattle.fixed.specs.Symbol.{gainError}
-use Rattle.fixed.proofs.Widths.{wide, in64, product-fits, sum-abs, sum-fits, sum-is}
-use Rattle.fixed.proofs.make.agc_error.Statement.{statement}
-use Rattle.fixed.proofs.make.agc_error.Tie as tie
+use Rattle.symbol.specs.Make.{gainError}
+use Rattle.arith.proofs.Widths.{wide, in64, product-fits, sum-abs, sum-fits, sum-is}
+use Rattle.symbol.proofs.make.agc_error.Statement.{statement}
+use Rattle.symbol.proofs.make.agc_error.Tie as tie
 
 -- ---- the power
 

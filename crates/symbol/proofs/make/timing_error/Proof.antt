@@ -1,4 +1,4 @@
--- `fixed::make::timing_error` meets its contract: two products of 16-bit numbers, and their sum, fit 64 bits, and the calls take any number of 64 bits.
+-- `symbol::make::timing_error` meets its contract: two products of 16-bit numbers, and their sum, fit 64 bits, and the calls take any number of 64 bits.
 -- A clamp to less than 2^23 on either side leaves a number of 32 bits.
 use Prim.Native.Nat.{_^_, _≤_}
 use mathlib.Core.Path.{_≡_, ap, _∙_}
@@ -13,11 +13,11 @@ use Rattle.arith.specs.Arith.{clampZ}
 use Rattle.arith.proofs.Magnitude.{clamp-abs}
 use Rattle.arith.proofs.Bits.{sfit, held, widens}
 use Rattle.params.specs.declared.Params.{Params}
-use Rattle.fixed.specs.declared.Output.{Output}
-use Rattle.fixed.specs.Symbol.{timingError}
-use Rattle.fixed.proofs.Widths.{narrows, narrowed, product-fits, sum-fits, sum-is}
-use Rattle.fixed.proofs.make.timing_error.Statement.{statement}
-use Rattle.fixed.proofs.make.timing_error.Tie as tie
+use Rattle.symbol.specs.declared.Output.{Output}
+use Rattle.symbol.specs.Make.{timingError}
+use Rattle.arith.proofs.Widths.{narrows, narrowed, product-fits, sum-fits, sum-is}
+use Rattle.symbol.proofs.make.timing_error.Statement.{statement}
+use Rattle.symbol.proofs.make.timing_error.Tie as tie
 
 -- ---- in phase
 

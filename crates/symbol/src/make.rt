@@ -1,14 +1,13 @@
-// A symbol: what is made of the sums (document 01: "A symbol", from its outputs to its errors).
+// What a symbol is made of, from the filters' sums to its errors (document 01: "A symbol", from its outputs to its errors).
 use crate::Output;
-use crate::Registers;
 use crate::Sums;
 use crate::Symbol;
 use params::Params;
 ghost use mathlib.Core.Path.{_≡_};
-ghost use Prim.Native.Nat.{_/_, _≤_};
+ghost use Prim.Native.Nat.{_-_, min};
 ghost use lib.IntN.{pos, _*ℤ_};
 ghost use Rattle.arith.specs.Arith.{roundShift, sat16Z};
-ghost use Rattle.fixed.specs.Symbol.{outputOf, amplified, quantised, timingError, gainError, symbolFrom};
+ghost use Rattle.symbol.specs.Make.{outputOf, amplified, quantised, timingError, gainError, symbolFrom};
 
 // A filter's sums as an output.
 fn output_of(s: Sums) -> Output
@@ -37,12 +36,24 @@ fn amplify(gain: u16, x: Output) -> Output
     }
 }
 
+// The bits of an output component below its sign. An amplified output has 16 bits, so more than these make no difference.
+fn below_sign(bits: u8) -> u32
+    ensures { λ r. ⌜ r ≡ min (bits - 1) 15 ⌝ }
+{
+    if bits < 1 {
+        return 0;
+    }
+    if 16 < bits {
+        return 15;
+    }
+    bits as u32 - 1
+}
+
 // A component at the width of the output.
 fn quantise(p: Params, v: i16) -> i16
-    requires { ⌜ (1 ≤ p .bits) × (p .bits ≤ 16) ⌝ }
     ensures { λ r. ⌜ r ≡ quantised p v ⌝ }
 {
-    let end: i64 = 1 << (p.bits as u32 - 1);
+    let end: i64 = 1 << below_sign(p.bits);
     arith::clamp(
         arith::round_shift(v as i64, p.q_shift as u32),
         0 - end,
@@ -68,43 +79,42 @@ fn agc_error(p: Params, zk: Output) -> i32
     arith::wrap_i32(p.agc_target as i64 - (power >> 12))
 }
 
-// The gain, the upper 16 of the accumulator's 24 bits.
-pub(crate) fn gain_of(acc: u32) -> u16
-    requires { ⌜ acc ≤ 16777215 ⌝ }
-    ensures { λ r. ⌜ r ≡ acc / 256 ⌝ }
-{
-    (acc / 256) as u16
-}
-
-// The symbol of these registers, sample, phase and sums.
-pub(crate) fn make(p: Params, r: Registers, sample: u64, phase: u8, sums: [Sums; 3]) -> Symbol
-    requires { ⌜ (1 ≤ p .bits) × ((p .bits ≤ 16) × (r .«gain_acc» ≤ 16777215)) ⌝ }
-    ensures { λ y. ⌜ y ≡ symbolFrom p r sample phase sums ⌝ }
-{
-    let gain = gain_of(r.gain_acc);
-    let y = output_of(sums[0]);
-    let dy = output_of(sums[1]);
-    let yk = output_of(sums[2]);
-    let z = amplify(gain, y);
-    let dz = amplify(gain, dy);
-    let zk = amplify(gain, yk);
-    let q = Output {
-        i: quantise(p, zk.i),
-        q: quantise(p, zk.q),
-    };
-    Symbol {
-        sample,
-        phase,
-        y,
-        dy,
-        yk,
-        gain,
-        period: r.period,
-        z,
-        dz,
-        zk,
-        q,
-        e: timing_error(p, z, dz),
-        err: agc_error(p, zk),
+impl Symbol {
+    // The symbol of this gain and period, at this sample and phase, of the sums of h, g and k.
+    pub fn make(
+        p: Params,
+        gain: u16,
+        period: u32,
+        sample: u64,
+        phase: u8,
+        sums: [Sums; 3],
+    ) -> Symbol
+        ensures { λ y. ⌜ y ≡ symbolFrom p gain period sample phase sums ⌝ }
+    {
+        let y = output_of(sums[0]);
+        let dy = output_of(sums[1]);
+        let yk = output_of(sums[2]);
+        let z = amplify(gain, y);
+        let dz = amplify(gain, dy);
+        let zk = amplify(gain, yk);
+        let q = Output {
+            i: quantise(p, zk.i),
+            q: quantise(p, zk.q),
+        };
+        Symbol {
+            sample,
+            phase,
+            y,
+            dy,
+            yk,
+            gain,
+            period,
+            z,
+            dz,
+            zk,
+            q,
+            e: timing_error(p, z, dz),
+            err: agc_error(p, zk),
+        }
     }
 }

@@ -1,4 +1,4 @@
--- `fixed::make::times` meets its contract: 16 bits signed times 16 bits unsigned are at most 2^31, so half of what is shifted out can be added first.
+-- `symbol::make::times` meets its contract: 16 bits signed times 16 bits unsigned are at most 2^31, so half of what is shifted out can be added first.
 -- The shift then rounds as the definition does, and the saturation takes any number of 64 bits.
 use Prim.Native.Nat.{ℕ, _^_, _≤_}
 use mathlib.Core.Path.{_≡_, ap, _∙_}
@@ -12,9 +12,9 @@ use borrow.Author.Needs.{needs}
 use Rattle.arith.specs.Arith.{roundShift, sat16Z}
 use Rattle.arith.proofs.Magnitude.{abs-mul-le, abs-add, abs-shr-pow}
 use Rattle.arith.proofs.Bits.{sfit, fit-abs, back, held, widens, widened, whole}
-use Rattle.fixed.proofs.Widths.{wide, in64}
-use Rattle.fixed.proofs.make.times.Statement.{statement}
-use Rattle.fixed.proofs.make.times.Tie as tie
+use Rattle.arith.proofs.Widths.{wide, in64}
+use Rattle.symbol.proofs.make.times.Statement.{statement}
+use Rattle.symbol.proofs.make.times.Tie as tie
 
 module _ {x : ℤ} {gain : ℕ} (f : SFits w16 x) (g : Fits w16 gain) where
   times-abs : natAbs (x *ℤ pos gain) ≤ 2 ^ 31

@@ -1,10 +1,10 @@
--- `fixed::make::output_of` meets its contract: each component is what the two calls answer, and both take any number of 64 bits.
+-- `symbol::make::output_of` meets its contract: each component is what the two calls answer, and both take any number of 64 bits.
 use mir.Syntax.{w64}
 use borrow.Author.Needs.{needs}
 use Rattle.arith.proofs.Bits.{held}
-use Rattle.fixed.proofs.Widths.{saturated}
-use Rattle.fixed.proofs.make.output_of.Statement.{statement}
-use Rattle.fixed.proofs.make.output_of.Tie as tie
+use Rattle.arith.proofs.Widths.{saturated}
+use Rattle.symbol.proofs.make.output_of.Statement.{statement}
+use Rattle.symbol.proofs.make.output_of.Tie as tie
 
 round-shift-requires : tie.Need-round-shift-requires
 round-shift-requires c κs = search needs

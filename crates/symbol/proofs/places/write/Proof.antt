@@ -1,4 +1,4 @@
--- `fixed::block::write` meets its contract: after j turns the first j of the 20 numbers stand in the output from place w on.
+-- `symbol::places::write` meets its contract: after j turns the first j of the 20 numbers stand in the output from place w on.
 -- What is before them and behind them is as it was (`lib.Seq`, `paste`).
 use Prim.Native.Nat.{_+_, _-_, _≤_, _<_}
 use mathlib.Core.Path.{_≡_, refl, ap, _∙_}
@@ -11,8 +11,8 @@ use lib.IntN.{ℤ, pos}
 use mir.Syntax.{w64}
 use borrow.Author.Needs.{needs}
 use Rattle.arith.proofs.Bits.{held}
-use Rattle.fixed.proofs.block.write.Statement.{statement}
-use Rattle.fixed.proofs.block.write.Tie as tie
+use Rattle.symbol.proofs.places.write.Statement.{statement}
+use Rattle.symbol.proofs.places.write.Tie as tie
 
 abbrev Inv-loop : tie.InvT-loop
 Inv-loop out₀ w symbol j₀ out j = (j ≤ 20) × (length out ≡ length out₀) × (out ≡ paste out₀ w symbol j)

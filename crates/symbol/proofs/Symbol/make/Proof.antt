@@ -1,5 +1,5 @@
--- `fixed::make::make` meets its contract: each part of the symbol is what its call answers, of the same parts that the definition takes for it.
--- Of the sheet and the registers only what `gain_of` and `quantise` ask for has to be known.
+-- `symbol::Symbol::make` meets its contract: each part of the symbol is what its call answers, of the same parts that the definition takes for it.
+-- Nothing has to be known of the sheet, the gain or the sums.
 use Prim.Native.Nat.{_^_, _<_}
 use mathlib.Core.Path.{_≡_, ap, _∙_}
 use lib.IntN.{ℤ}
@@ -9,12 +9,9 @@ use mir.Val.{toZ, ofZ}
 use borrow.Author.Needs.{needs}
 use Rattle.arith.proofs.Bits.{held}
 use Rattle.params.specs.declared.Params.{Params}
-use Rattle.fixed.specs.Symbol.{quantised, symbolFrom}
-use Rattle.fixed.proofs.make.make.Statement.{statement}
-use Rattle.fixed.proofs.make.make.Tie as tie
-
-gain-of-requires : tie.Need-gain-of-requires
-gain-of-requires c κs = search needs
+use Rattle.symbol.specs.Make.{quantised, symbolFrom}
+use Rattle.symbol.proofs.Symbol.make.Statement.{statement}
+use Rattle.symbol.proofs.Symbol.make.Tie as tie
 
 array-copy-out-output-of : tie.Need-array-copy-out-output-of
 array-copy-out-output-of c = search needs
@@ -71,7 +68,7 @@ returns c =
     let yk = z .before in
     let dy = yk .before .before in
     let y = dy .before .before in
-    let g = y .before .before in
+    let g = y .before in
     let qi = component (g .before .args .p) (zk .amplify3 .result .i) (search (a .before .struct-told .given)) (a .quantise .ensures) (a .quantise .ok) in
     let qq = component (g .before .args .p) (zk .amplify3 .result .q) (search (b .before .struct-told2 .given)) (b .quantise2 .ensures) (b .quantise2 .ok) in
     let e = held w32 (t .timing-error .result) (t .timing-error .ok) ∙ t .timing-error .ensures in
@@ -87,14 +84,12 @@ returns c =
       yk .output-of3 .ensures,
       dy .output-of2 .ensures,
       y .output-of .ensures,
-      g .gain-of .ensures,
     )
 
 pub make-spec : {M : Type 1} → statement M
 make-spec =
     tie.close
     (tie.spec
-    gain-of-requires
     array-copy-out-output-of
     output-of-requires
     array-copy-out-output-of-2
