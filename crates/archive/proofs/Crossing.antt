@@ -10,7 +10,7 @@ use lib.Seq.{take-all, take-at, drop-at, length-take-le, drop-drop}
 use lib.IntN.{ℤ}
 use borrow.Author.Tests.{eq-eqb}
 use Rattle.fixed.specs.declared.Pair.{Pair}
-use Rattle.fixed.specs.declared.Pending.{Pending}
+use Rattle.registers.specs.declared.Pending.{Pending}
 use Rattle.fixed.specs.declared.Frontend.{Frontend}
 use Rattle.fixed.specs.Start.{noPair, noPending}
 use Rattle.archive.specs.Places.{at, i32, isKind, areKinds}

@@ -7,7 +7,7 @@ use lib.Dec.{eqb}
 use lib.ListN.{length, take, drop, replicate}
 use lib.IntN.{ℤ, pos, natAbs}
 use Rattle.fixed.specs.declared.Pair.{Pair}
-use Rattle.fixed.specs.declared.Pending.{Pending}
+use Rattle.registers.specs.declared.Pending.{Pending}
 use Rattle.fixed.specs.declared.Frontend.{Frontend}
 use Rattle.archive.specs.Places.{at, u32, i32, i64, count, areKinds}
 

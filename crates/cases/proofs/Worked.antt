@@ -8,7 +8,7 @@ use Rattle.floats.specs.Whole.{roundAway}
 use Rattle.design.specs.Steps.{hundredths, spsOf, periodNominal, atLeastMin, periodMin, periodMax, integratorMax, ncoStep, agcTarget, registersOf}
 use Rattle.design.specs.Design.{goodSps, goodTrim, designFaults, designOf}
 use Rattle.fixed.specs.Mix.{mixed}
-use Rattle.fixed.specs.Symbol.{quantised, gainError}
+use Rattle.symbol.specs.Make.{quantised, gainError}
 use Rattle.cases.specs.Sheet.{rows, paramsWith, sheetOf, sheet, firstOfK}
 use Rattle.cases.specs.Rates.{twoSamples, registersWith}
 use Rattle.cases.specs.Worked.{placesFrom, Worked}

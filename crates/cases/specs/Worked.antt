@@ -13,7 +13,7 @@ use Rattle.params.specs.Offset.{offsetOf}
 use Rattle.design.specs.Refusal.{accepted}
 use Rattle.design.specs.Design.{designOf}
 use Rattle.fixed.specs.Mix.{mixed}
-use Rattle.fixed.specs.Symbol.{quantised, gainError}
+use Rattle.symbol.specs.Make.{quantised, gainError}
 use Rattle.cases.specs.Sheet.{paramsWith, sheetOf, sheet, firstOfK}
 use Rattle.cases.specs.Rates.{twoSamples, registersWith}
 

@@ -11,8 +11,8 @@ use lib.IntN.{ℤ, pos}
 use Rattle.params.specs.Judge.{Sheet}
 use Rattle.fixed.specs.declared.Pair.{Pair}
 use Rattle.fixed.specs.declared.Frontend.{Frontend}
-use Rattle.fixed.specs.declared.Symbol.{Symbol}
-use Rattle.fixed.specs.Symbol.{placesOf}
+use Rattle.symbol.specs.declared.Symbol.{Symbol}
+use Rattle.symbol.specs.Places.{placesOf}
 use Rattle.fixed.specs.Sample.{joined, withSymbol, withoutSymbol, falls, next, madeBy, after, emitted}
 use Rattle.fixed.specs.Block.{flattened}
 

@@ -16,16 +16,17 @@ use Rattle.params.specs.Judge.{Sheet, within}
 use Rattle.params.proofs.Rows.{and-left, and-right}
 use Rattle.params.proofs.Accepted.{Accepted}
 use Rattle.fixed.specs.declared.Pair.{Pair}
-use Rattle.fixed.specs.declared.Pending.{Pending}
-use Rattle.fixed.specs.declared.Registers.{Registers}
+use Rattle.registers.specs.declared.Pending.{Pending}
+use Rattle.registers.specs.declared.Registers.{Registers}
 use Rattle.fixed.specs.declared.Frontend.{Frontend}
 use Rattle.fixed.specs.Start.{noPending}
 use Rattle.fixed.specs.Line.{nextHead}
-use Rattle.fixed.specs.Loop.{loopDelay, integratorEnd, corrected}
-use Rattle.fixed.specs.Symbol.{due}
-use Rattle.fixed.specs.Sample.{one, joined, withSymbol, withoutSymbol, falls, next, after}
+use Rattle.fixed.specs.Queue.{loopDelay}
+use Rattle.registers.specs.Correct.{integratorEnd, corrected}
+use Rattle.fixed.specs.Sample.{due, joined, withSymbol, withoutSymbol, falls, next, after}
+use Rattle.registers.specs.Step.{one, found, left}
 use Rattle.fixed.specs.Block.{goodState}
-use Rattle.fixed.proofs.Loops.{loopOf, corrected-moves, Within, moved-within}
+use Rattle.registers.proofs.Loops.{loopOf, corrected-moves, Within, moved-within}
 
 -- ---- the time to the next symbol, in 2^24ths of a sample
 
@@ -49,7 +50,7 @@ head-below taps head h = go (eqb head 0) refl
 -- ---- the errors that are due move the loop, and nothing else
 
 pub due-time : (p : Params) (f : Frontend) → due p f .«t_acc» ≡ f .registers .«t_acc»
-unfolding due corrected
+unfolding due found corrected
 due-time p f = go (eqb (f .waiting) loopDelay) refl
   where
     go : (b : Bool) → eqb (f .waiting) loopDelay ≡ b → due p f .«t_acc» ≡ f .registers .«t_acc»
@@ -57,7 +58,7 @@ due-time p f = go (eqb (f .waiting) loopDelay) refl
     go false e = rw e
 
 pub due-symbols : (p : Params) (f : Frontend) → due p f .symbols ≡ f .registers .symbols
-unfolding due corrected
+unfolding due found corrected
 due-symbols p f = go (eqb (f .waiting) loopDelay) refl
   where
     go : (b : Bool) → eqb (f .waiting) loopDelay ≡ b → due p f .symbols ≡ f .registers .symbols
@@ -130,7 +131,7 @@ going p f e =
       few = leb-true (r .symbols) (f .samples) (and-right c9 b10 e);
     }
 
-both : {a b : Bool} → a ≡ true → b ≡ true → (a && b) ≡ true
+pub both : {a b : Bool} → a ≡ true → b ≡ true → (a && b) ≡ true
 both {a} {b} p q = ap (λ (x : Bool). x && b) p ∙ q
 
 pub good : (p : Params) (f : Frontend) → Going p f → goodState p f ≡ true
@@ -167,9 +168,9 @@ module _ (s : Sheet) (a : Accepted s) where
     few = g .few;
   }
 
-  pub silent-going : (f : Frontend) → 16777216 ≤ time f → Going p f → Going p (withoutSymbol f)
+  pub without-symbol-going : (f : Frontend) → 16777216 ≤ time f → Going p f → Going p (withoutSymbol f)
   unfolding withoutSymbol
-  silent-going f h g =
+  without-symbol-going f h g =
       let t : f .registers .«t_acc» -ℤ one ≡ pos (time f - 16777216) = rw (g .whole) (minus-nat (time f) 16777216 h) in
       let n : natAbs (f .registers .«t_acc» -ℤ one) ≡ time f - 16777216 = ap natAbs t in
       record {
@@ -184,7 +185,7 @@ module _ (s : Sheet) (a : Accepted s) where
 
   -- the loop as a symbol finds it
   pub due-within : (f : Frontend) → Going p f → Within p (loopOf (due p f))
-  unfolding due
+  unfolding due found
   due-within f g = go (eqb (f .waiting) loopDelay) refl
     where
       r : Registers
@@ -199,9 +200,9 @@ module _ (s : Sheet) (a : Accepted s) where
           (subst (Within p) (sym (corrected-moves p r w)) (moved-within p (a .periods) (a .fields) (loopOf r) w))
       go false e = subst (λ (b : Bool). Within p (loopOf (cond b (corrected p r w) r))) (sym e) (g .loop)
 
-  pub sounded-going : (f : Frontend) → time f < 16777216 → Going p f → Going p (withSymbol s f)
-  unfolding withSymbol
-  sounded-going f h g =
+  pub with-symbol-going : (f : Frontend) → time f < 16777216 → Going p f → Going p (withSymbol s f)
+  unfolding withSymbol left
+  with-symbol-going f h g =
       let w = due-within f g in
       let n : ℕ = time f + due p f .period in
       let t : due p f .«t_acc» +ℤ pos (due p f .period) -ℤ one ≡ pos (n - 16777216) =
@@ -242,8 +243,8 @@ module _ (s : Sheet) (a : Accepted s) where
       j = joined-going f x g
 
       go : (b : Bool) → falls f ≡ b → Going p (next s f x)
-      go true e = rw e (sounded-going (joined s f x) (ltb-true (time f) 16777216 (sym (ap (λ (z : ℤ). ltZ z one) (g .whole)) ∙ e)) j)
-      go false e = rw e (silent-going (joined s f x) (ltb-false (time f) 16777216 (sym (ap (λ (z : ℤ). ltZ z one) (g .whole)) ∙ e)) j)
+      go true e = rw e (with-symbol-going (joined s f x) (ltb-true (time f) 16777216 (sym (ap (λ (z : ℤ). ltZ z one) (g .whole)) ∙ e)) j)
+      go false e = rw e (without-symbol-going (joined s f x) (ltb-false (time f) 16777216 (sym (ap (λ (z : ℤ). ltZ z one) (g .whole)) ∙ e)) j)
 
   pub run-going : (f : Frontend) (xs : List Pair) → Going p f → Going p (after s f xs)
   unfolding after

@@ -18,15 +18,14 @@ use Rattle.params.specs.declared.Verdict.{Verdict}
 use Rattle.params.specs.declared.Verdict.the-variants.{Accepted as SheetAccepted, Refused}
 use Rattle.params.specs.Refusal.{Refusal, refusal, nothing, errorRefusal, verdictRefusal}
 use Rattle.params.specs.Judge.{Sheet, unless, firstOf, faults, judged}
-use Rattle.params.proofs.Faults.{Numbered, numbered-append, numbered-unless, first-none, none-first, first-append, error-numbered, refused, faults-numbered}
-use Rattle.params.proofs.Faults.{kept, none-at, none-left, none-right}
+use Rattle.params.proofs.Faults.{Numbered, numbered-append, numbered-unless, first-none, none-first, first-append, error-numbered, refused, faults-numbered, kept, none-at, none-left, none-right}
 use Rattle.params.proofs.Accepted.{Accepted as AcceptedSheet, no-faults}
 use Rattle.fixed.specs.declared.Frontend.{Frontend}
 use Rattle.fixed.specs.declared.Position.{Position}
 use Rattle.fixed.specs.declared.FrontendVerdict.{FrontendVerdict}
 use Rattle.fixed.specs.declared.FrontendVerdict.the-variants.{Accepted, Params, State, OddInput, ShortOutput, TooManySamples}
 use Rattle.fixed.specs.Block.{goodState, stateFaults, sizeFaults, blockFaults, frontendRefusal}
-use Rattle.fixed.specs.Inside.{bare}
+use Rattle.fixed.specs.Inside.{outline}
 use Rattle.fixed.proofs.FrontendVerdict as verdict
 
 -- ---- two lists of faults, one after the other
@@ -98,9 +97,9 @@ abbrev pub standing : Frontend → Position
 standing f = record { head = f .head; oldest = f .oldest; waiting = f .waiting; samples = f .samples }
 
 -- the test looks at the registers and at where the state stands, and at nothing else
-pub bare-good : (p : Fields) (f : Frontend) {w : Position} → w ≡ standing f → goodState p (bare (f .registers) w) ≡ goodState p f
+pub outline-good : (p : Fields) (f : Frontend) {w : Position} → w ≡ standing f → goodState p (outline (f .registers) w) ≡ goodState p f
 unfolding goodState
-bare-good p f e = ap (λ (w : Position). goodState p (bare (f .registers) w)) e
+outline-good p f e = ap (λ (w : Position). goodState p (outline (f .registers) w)) e
 
 -- ---- a state, then a block's sizes
 

@@ -10,15 +10,16 @@ use lib.Signed.{leZ, ltZ}
 use Rattle.params.specs.declared.Params.{Params}
 use Rattle.params.specs.Refusal.{Refusal, refusal, nothing, errorRefusal}
 use Rattle.params.specs.Judge.{Sheet, unless, firstOf, within, faults}
+use Rattle.registers.specs.declared.Registers.{Registers}
+use Rattle.registers.specs.Correct.{integratorEnd}
+use Rattle.symbol.specs.declared.Symbol.{Symbol}
+use Rattle.symbol.specs.Places.{placesOf}
 use Rattle.fixed.specs.declared.Pair.{Pair}
-use Rattle.fixed.specs.declared.Registers.{Registers}
 use Rattle.fixed.specs.declared.Frontend.{Frontend}
-use Rattle.fixed.specs.declared.Symbol.{Symbol}
 use Rattle.fixed.specs.declared.FrontendVerdict.{FrontendVerdict}
 use Rattle.fixed.specs.declared.Processed.{Processed}
 use Rattle.fixed.specs.declared.Reading.{Reading}
-use Rattle.fixed.specs.Loop.{loopDelay, integratorEnd}
-use Rattle.fixed.specs.Symbol.{placesOf}
+use Rattle.fixed.specs.Queue.{loopDelay}
 use Rattle.fixed.specs.Sample.{after, emitted}
 
 -- ---- what is refused

@@ -20,5 +20,5 @@ mixed nco x =
     record { i = unscaled (x .i *ℤ c -ℤ x .q *ℤ s); q = unscaled (x .i *ℤ s +ℤ x .q *ℤ c) }
 
 -- The phase word of the next sample.
-unfoldable pub turned : Params → ℕ → ℕ
-turned p nco = modZ (pos nco +ℤ p .«nco_step») (2 ^ 32)
+unfoldable pub nextNco : Params → ℕ → ℕ
+nextNco p nco = modZ (pos nco +ℤ p .«nco_step») (2 ^ 32)

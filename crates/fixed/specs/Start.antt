@@ -7,8 +7,8 @@ use lib.IntN.{pos}
 use Rattle.params.specs.declared.Params.{Params}
 use Rattle.params.specs.Refusal.{Refusal, verdictRefusal}
 use Rattle.params.specs.Judge.{Sheet, judged}
+use Rattle.registers.specs.declared.Pending.{Pending}
 use Rattle.fixed.specs.declared.Pair.{Pair}
-use Rattle.fixed.specs.declared.Pending.{Pending}
 use Rattle.fixed.specs.declared.Frontend.{Frontend}
 use Rattle.fixed.specs.declared.Started.{Started}
 

@@ -1,16 +1,16 @@
 // The fixed-point front end: what it keeps between samples, what it makes of them, and what its calls answer.
 mod block;
-mod correct;
 mod filter;
-mod group;
 mod line;
-mod make;
 mod mix;
+mod queue;
 mod sample;
 
 use params::ParamError;
 use params::Params;
 use params::Verdict;
+use registers::Pending;
+use registers::Registers;
 ghost use mathlib.Core.Path.{_≡_};
 ghost use mathlib.Core.List.{[]};
 ghost use Rattle.params.specs.Judge.{sheetOf, firstOf};
@@ -21,34 +21,6 @@ ghost use Rattle.fixed.specs.Block.{stateFaults, sizeFaults, blockFaults
 pub struct Pair {
     pub i: i32,
     pub q: i32,
-}
-
-// The errors that one symbol leaves: of the timing, and of the gain. They wait until 24 symbols later.
-pub struct Pending {
-    pub e: i32,
-    pub err: i32,
-}
-
-// The registers that change as a group with each sample and symbol (document 01: the six loop registers).
-pub struct Registers {
-    // Phase word of the mixer, in 2^32ths of a turn.
-    pub nco: u32,
-    // Time to the next symbol, in 2^24ths of a sample (document 01: t).
-    pub t_acc: i64,
-    // The loop's integrator, in 2^40ths of a sample.
-    pub v: i64,
-    // The symbol period in force, in 2^24ths of a sample.
-    pub period: u32,
-    // The gain accumulator; the gain is its upper 16 of 24 bits.
-    pub gain_acc: u32,
-    // Symbols made so far.
-    pub symbols: u64,
-}
-
-// What a symbol makes of the registers, and whether it was made; where not, they are as given.
-pub struct AfterSymbol {
-    pub registers: Registers,
-    pub made: bool,
 }
 
 // All that is kept between samples (document 01: the state).
@@ -71,41 +43,6 @@ pub struct Position {
     pub oldest: usize,
     pub waiting: usize,
     pub samples: u64,
-}
-
-// The three banks' sums are an array of these, for h, g and k.
-pub struct Sums {
-    pub i: i64,
-    pub q: i64,
-}
-
-// What becomes of a sum: the output of a filter, that times the gain, and the symbol's own components, each within 16 bits.
-pub struct Output {
-    pub i: i16,
-    pub q: i16,
-}
-
-// A symbol, with what led to it.
-pub struct Symbol {
-    // The sample at which it was made, counted from 0, and the sixty-fourth of it.
-    pub sample: u64,
-    pub phase: u8,
-    // The filters' outputs: matched, derivative and output filter.
-    pub y: Output,
-    pub dy: Output,
-    pub yk: Output,
-    // The gain and the period in force.
-    pub gain: u16,
-    pub period: u32,
-    // The same outputs times the gain.
-    pub z: Output,
-    pub dz: Output,
-    pub zk: Output,
-    // The output components, `bits` wide.
-    pub q: Output,
-    // The errors of timing and gain that it leaves.
-    pub e: i32,
-    pub err: i32,
 }
 
 // What a call on a state answers beside its result (document 01: refusals 1 to 12).
@@ -271,7 +208,7 @@ impl Frontend {
             FrontendVerdict::Accepted => Reading {
                 verdict: FrontendVerdict::Accepted,
                 period: r.period,
-                gain: make::gain_of(r.gain_acc),
+                gain: sample::gain_of(r.gain_acc),
                 symbols: r.symbols,
             },
             _ => Reading {

@@ -32,7 +32,7 @@ pub(crate) fn mix(cos: &[i16; 1024], nco: u32, i: i16, q: i16) -> Pair
 }
 
 // The phase word of the next sample: the step is added as 32 bits unsigned, modulo 2^32.
-pub(crate) fn turn(nco: u32, step: i32) -> u32
+pub(crate) fn next_nco(nco: u32, step: i32) -> u32
     ensures { λ r. ⌜ r ≡ modZ (pos nco +ℤ step) (2 ^ 32) ⌝ }
 {
     std::num::wrapping_add_u32(nco, arith::wrap_u32(step as i64))

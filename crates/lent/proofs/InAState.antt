@@ -13,11 +13,10 @@ use Rattle.params.specs.declared.Params.{Params}
 use Rattle.params.specs.Judge.{Sheet}
 use Rattle.fixed.specs.declared.Frontend.{Frontend}
 use Rattle.fixed.specs.Start.{noPending}
-use Rattle.fixed.specs.Loop.{loopDelay}
-use Rattle.fixed.specs.Symbol.{due}
-use Rattle.fixed.specs.Sample.{withSymbol, falls}
+use Rattle.fixed.specs.Queue.{loopDelay}
+use Rattle.fixed.specs.Sample.{due, withSymbol, falls}
 use Rattle.fixed.specs.Block.{goodState}
-use Rattle.fixed.specs.Lent.{ripe, found, left, afterSymbol}
+use Rattle.registers.specs.Step.{ripe, found, left, afterSymbol}
 use Rattle.fixed.proofs.States.{time, going}
 
 both : {a b : Bool} → a ≡ true → b ≡ true → (a && b) ≡ true

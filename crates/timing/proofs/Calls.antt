@@ -10,7 +10,7 @@ use lib.Seq.{take-at}
 use Rattle.params.specs.Judge.{Sheet, firstOf}
 use Rattle.fixed.specs.declared.Pair.{Pair}
 use Rattle.fixed.specs.declared.Frontend.{Frontend}
-use Rattle.fixed.specs.declared.Symbol.{Symbol}
+use Rattle.symbol.specs.declared.Symbol.{Symbol}
 use Rattle.fixed.specs.Sample.{after, emitted}
 use Rattle.fixed.specs.Block.{blockFaults, pairsOf, flattened, accepted, blockOf}
 use Rattle.timing.specs.Lists.{Call, answer, stateAfter, takenBy, taken, written, counted}

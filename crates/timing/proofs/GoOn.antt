@@ -13,9 +13,9 @@ use Rattle.params.specs.Refusal.{Refusal, refusal}
 use Rattle.params.specs.Judge.{Sheet, unless, firstOf, faults}
 use Rattle.params.proofs.Accepted.{Accepted, judged-none, no-faults}
 use Rattle.fixed.specs.declared.Frontend.{Frontend}
-use Rattle.fixed.specs.declared.Symbol.{Symbol}
+use Rattle.symbol.specs.declared.Symbol.{Symbol}
 use Rattle.fixed.specs.Start.{startOf}
-use Rattle.fixed.specs.Loop.{loopDelay}
+use Rattle.fixed.specs.Queue.{loopDelay}
 use Rattle.fixed.specs.Block.{goodState, stateFaults, sizeFaults, blockFaults, accepted, blockOf}
 use Rattle.timing.specs.Lists.{Call, answer, endState}
 use Rattle.timing.specs.Timing.{StatesGoOn}

@@ -16,16 +16,17 @@ use Rattle.params.specs.declared.Params.{Params}
 use Rattle.params.specs.Judge.{Sheet}
 use Rattle.params.proofs.Accepted.{Accepted}
 use Rattle.fixed.specs.declared.Pair.{Pair}
-use Rattle.fixed.specs.declared.Pending.{Pending}
-use Rattle.fixed.specs.declared.Registers.{Registers}
+use Rattle.registers.specs.declared.Pending.{Pending}
+use Rattle.registers.specs.declared.Registers.{Registers}
 use Rattle.fixed.specs.declared.Frontend.{Frontend}
-use Rattle.fixed.specs.declared.Symbol.{Symbol}
+use Rattle.symbol.specs.declared.Symbol.{Symbol}
 use Rattle.fixed.specs.Start.{noPending, fresh}
-use Rattle.fixed.specs.Loop.{loopDelay}
-use Rattle.fixed.specs.Symbol.{due, symbolFrom, symbolOf}
-use Rattle.fixed.specs.Sample.{one, joined, withSymbol, withoutSymbol, falls, next, madeBy, after, emitted}
+use Rattle.fixed.specs.Queue.{loopDelay}
+use Rattle.fixed.specs.Sample.{due, symbolOf, joined, withSymbol, withoutSymbol, falls, next, madeBy, after, emitted}
+use Rattle.symbol.specs.Make.{symbolFrom}
+use Rattle.registers.specs.Step.{one}
 use Rattle.fixed.proofs.States.{time, minus-nat, head-below, due-time, due-symbols}
-use Rattle.fixed.proofs.Loops.{Loop, loopOf, corrected-moves, Within}
+use Rattle.registers.proofs.Loops.{Loop, loopOf, corrected-moves, Within}
 use Rattle.timing.proofs.Errors.{total, total-append, errors, errorsOf, errors-append, length-errors, movedBy, movedBy-snoc, freshLoop, loop-within}
 
 module _ (s : Sheet) where

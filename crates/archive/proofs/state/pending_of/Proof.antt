@@ -8,7 +8,7 @@ use mir.Syntax.{w32}
 use denote.Ref.{now}
 use borrow.Author.Needs.{needs}
 use Rattle.arith.proofs.Bits.{held}
-use Rattle.fixed.specs.declared.Pending.{Pending}
+use Rattle.registers.specs.declared.Pending.{Pending}
 use Rattle.fixed.specs.Start.{noPending}
 use Rattle.archive.proofs.Readable.{state-long, pair-at}
 use Rattle.archive.proofs.Twos.{Taken, taken-none, taken-next, taken-all}

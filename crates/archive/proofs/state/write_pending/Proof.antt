@@ -10,7 +10,7 @@ use mir.Syntax.{w32, w64}
 use mir.Val.{SFits}
 use borrow.Author.Needs.{needs}
 use Rattle.arith.proofs.Bits.{widened}
-use Rattle.fixed.specs.declared.Pending.{Pending}
+use Rattle.registers.specs.declared.Pending.{Pending}
 use Rattle.fixed.specs.Start.{noPending}
 use Rattle.archive.specs.State.{pendingNumbers}
 use Rattle.archive.proofs.Twos.{Put, put-none, put-next, put-all}

@@ -8,7 +8,7 @@ use borrow.Author.Tests.{not-true, not-false}
 use Rattle.params.specs.Refusal.{refusal}
 use Rattle.params.specs.Judge.{Sheet, sheetOf, unless, firstOf}
 use Rattle.fixed.specs.Block.{stateFaults}
-use Rattle.fixed.proofs.Verdicts.{sheet-passes, sheet-refuses, state-answer, bare-good}
+use Rattle.fixed.proofs.Verdicts.{sheet-passes, sheet-refuses, state-answer, outline-good}
 use Rattle.fixed.proofs.Frontend.check_state.Statement.{statement}
 use Rattle.fixed.proofs.Frontend.check_state.Tie as tie
 
@@ -41,7 +41,7 @@ tested c e =
     let a = v .before .args in
     state-answer (sheet (v .before)) (a .self)
     (sheet-passes (sheet (v .before)) (v .validate .ensures) (c .before .before .before .enum-told .given .1))
-    (sym (bare-good (a .p) (a .self) (c .before .position .ensures)) ∙ sym (c .is-good-state .ensures) ∙ e)
+    (sym (outline-good (a .p) (a .self) (c .before .position .ensures)) ∙ sym (c .is-good-state .ensures) ∙ e)
 
 returns-2 : tie.Need-returns-2
 returns-2 c = tested (c .before) (not-true (c .before .is-good-state .result) (c .if1 .taken))

@@ -15,7 +15,7 @@ use Rattle.fixed.specs.Sample.{after, emitted}
 use Rattle.fixed.specs.Block.{Block, pairsOf, flattened, accepted}
 use Rattle.fixed.specs.Inside.{Stands}
 use Rattle.fixed.proofs.States.{going}
-use Rattle.fixed.proofs.Verdicts.{Faultless, faultless, bare-good}
+use Rattle.fixed.proofs.Verdicts.{Faultless, faultless, outline-good}
 use Rattle.fixed.proofs.Unpacked.{after-rest, line-packed, queue-packed, put-together}
 use Rattle.fixed.proofs.Frontend.run.Statement.{statement}
 use Rattle.fixed.proofs.Frontend.run.Tie as tie
@@ -96,7 +96,7 @@ run-requires c κs =
     let b = begins c in (
       record {
         accepted = f .judged-so;
-        good = bare-good (s .args .p) (s .args .self) (c .position .ensures) ∙ f .good;
+        good = outline-good (s .args .p) (s .args .self) (c .position .ensures) ∙ f .good;
         long-i = b .line .in-i .long;
         long-q = b .line .in-q .long;
         long-e = b .queue .long-e;

@@ -14,11 +14,12 @@ use borrow.Author.Needs.{needs}
 use borrow.Author.Tests.{lt-ltb, le-ltb}
 use Rattle.arith.proofs.Bits.{held, widens, widened}
 use Rattle.params.specs.Judge.{within}
-use Rattle.fixed.specs.Loop.{loopDelay, integratorEnd}
+use Rattle.fixed.specs.Queue.{loopDelay}
+use Rattle.registers.specs.Correct.{integratorEnd}
 use Rattle.fixed.specs.Block.{goodState}
-use Rattle.fixed.specs.Inside.{bare}
-use Rattle.fixed.proofs.Widths.{end-fits, low-fits, end-is}
-use Rattle.fixed.proofs.Tested.{with-next, and-next, low-test, high-test}
+use Rattle.fixed.specs.Inside.{outline}
+use Rattle.registers.proofs.Integrator.{end-fits, low-fits, end-is, low-test, high-test}
+use Rattle.arith.proofs.Tested.{with-next, and-next}
 use Rattle.fixed.proofs.block.is_good_state.Statement.{statement}
 use Rattle.fixed.proofs.block.is_good_state.Tie as tie
 
@@ -125,7 +126,7 @@ passed10 c =
 
 -- all tests but the last, by what they came to
 but-last : (c : tie.Joined10) (b : Bool) → c .if10 .if11 ≡ b
-    → let a = start-10 c .args in (b && leb (a .r .symbols) (a .w .samples)) ≡ goodState (a .p) (bare (a .r) (a .w))
+    → let a = start-10 c .args in (b && leb (a .r .symbols) (a .w .samples)) ≡ goodState (a .p) (outline (a .r) (a .w))
 unfolding goodState
 but-last c b e =
     let a = start-10 c .args in

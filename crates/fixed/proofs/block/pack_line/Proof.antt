@@ -80,7 +80,7 @@ returns : tie.Need-returns Inv-loop μ-loop
 returns c =
     let a = c .before .before .before .before .args in
     let l = c .before .loop in
-    (search needs, λ m. choice (a .taps) m (λ h. l .inv .1 .first m (omega arith)) (λ h. l .inv .1 .rest m (omega arith)))
+    record { long = search needs; each = λ m. choice (a .taps) m (λ h. l .inv .1 .first m (omega arith)) (λ h. l .inv .1 .rest m (omega arith)) }
 
 pub pack-line-spec : {M : Type 1} → statement M
 pack-line-spec =

@@ -1,175 +1,98 @@
--- `fixed::block::run` meets its contract: each turn reads one pair, pushes it and writes its symbol, and keeps what holds of the turns before (Turns).
--- After the last turn all pairs are taken, and what holds is the contract.
-use Prim.Native.Nat.{_+_, _-_, _*_, _/_, _<_}
-use mathlib.Core.Path.{_≡_, sym, subst, _∙_}
-use mathlib.Core.List.{List}
-use native.Mathlib.Omega.{arith}
-use lib.ListN.{length, getD}
-use lib.IntN.{pos}
-use mir.Syntax.{w16}
-use mir.Val.{toZ, ofZ}
-use borrow.Author.Needs.{needs}
-use Rattle.arith.proofs.Bits.{held}
-use Rattle.params.specs.Judge.{sheetOf}
-use Rattle.fixed.specs.declared.Pair.{Pair}
-use Rattle.fixed.specs.Start.{noPair}
-use Rattle.fixed.specs.Sample.{after, emitted}
-use Rattle.fixed.specs.Block.{pairsOf}
-use Rattle.fixed.specs.Inside.{Stands}
-use Rattle.fixed.proofs.Turns.{Output, Turned, Pushed, pairs-at, turned-none, turned-next, all-taken, turned-ready}
 use Rattle.fixed.proofs.block.run.Statement.{statement}
 use Rattle.fixed.proofs.block.run.Tie as tie
+use Rattle.fixed.proofs.block.run.Reads as reads
+use Rattle.fixed.proofs.block.run.Lts as lts
+use Rattle.fixed.proofs.block.emit.Reads as emit-reads
+use Rattle.fixed.proofs.sample.push.Reads as push-reads
+use Rattle.tables.proofs.cos_table.Reads as cos-table-reads
 
 abbrev Inv-loop : tie.InvT-loop
 Inv-loop p h g k values out₀ i₀ q₀ e₀ err₀ cos registers₀ position₀ count₀ n₀ out i q e err registers position count n =
-    Turned p h g k values out₀ i₀ q₀ e₀ err₀ registers₀ position₀ out i q e err registers position count n
+    ?
 
 abbrev μ-loop : tie.MeasureT-loop
 μ-loop p h g k values out₀ i₀ q₀ e₀ err₀ cos registers₀ position₀ count₀ n₀ out i q e err registers position count n =
-    length values / 2 - n
+    ?
 
+-- src/block.rt:153:15
 cos-table-requires : tie.Need-cos-table-requires Inv-loop μ-loop
-cos-table-requires c κs = tt
+cos-table-requires c κs = ?
 
+-- src/block.rt:158:5
 loop-holds : tie.Need-loop-holds Inv-loop μ-loop
-loop-holds c =
-    let b = c .before .before .before in
-    let a = b .args in
-    turned-none (a .p) (a .h .now) (a .g .now) (a .k .now) (a .values .now) (a .out .now) (a .i .now) (a .q .now) (a .e .now) (a .err .now) (a .r) (a .w) (b .pre .0)
+loop-holds c = ?
 
+-- src/block.rt:171:20
 mul-push : tie.Need-mul-push Inv-loop μ-loop
-mul-push c = search needs
+mul-push c = ?
 
+-- src/block.rt:171:13
 mul-push-2 : tie.Need-mul-push-2 Inv-loop μ-loop
-mul-push-2 c = search needs
+mul-push-2 c = ?
 
+-- src/block.rt:171:13
 shared-slice-copy-out-push : tie.Need-shared-slice-copy-out-push Inv-loop μ-loop
-shared-slice-copy-out-push c = search needs
+shared-slice-copy-out-push c = ?
 
+-- src/block.rt:172:20
 mul-push-3 : tie.Need-mul-push-3 Inv-loop μ-loop
-mul-push-3 c = search needs
+mul-push-3 c = ?
 
+-- src/block.rt:172:20
 add-push : tie.Need-add-push Inv-loop μ-loop
-add-push c = search needs
+add-push c = ?
 
+-- src/block.rt:172:13
 mul-push-4 : tie.Need-mul-push-4 Inv-loop μ-loop
-mul-push-4 c = search needs
+mul-push-4 c = ?
 
+-- src/block.rt:172:13
 shared-slice-copy-out-push-2 : tie.Need-shared-slice-copy-out-push-2 Inv-loop μ-loop
-shared-slice-copy-out-push-2 c = search needs
+shared-slice-copy-out-push-2 c = ?
 
--- ---- a turn
-
-module _ (c : tie.In-loop Inv-loop μ-loop) where
-  abbrev at-loop : tie.At-loop Inv-loop μ-loop
-  at-loop = c .before
-
-  abbrev start : tie.Start Inv-loop μ-loop
-  start = at-loop .before .before .before .before
-
-  below : at-loop .loop .n < length (start .args .values .now) / 2
-  below = c .loop-test .taken
-
+-- src/block.rt:159:13
 push-requires : tie.Need-push-requires Inv-loop μ-loop
-push-requires c κs =
-    let t = c .before .before .before .before .before .before .before in
-    let b = start t in
-    let a = b .args in (
-      at-loop t .before .cos-table .ensures,
-      turned-ready (a .p) (a .h .now) (a .g .now) (a .k .now) (a .values .now) (a .out .now) (a .i .now) (a .q .now) (a .e .now) (a .err .now) (a .r) (a .w) (at-loop t .loop .inv) (below t) (b .pre .1 .1),
-    )
+push-requires c κs = ?
 
-module _ (c : tie.After-push Inv-loop μ-loop) where
-  abbrev turn : tie.In-loop Inv-loop μ-loop
-  turn = c .before .before .before .before .before .before .before .before
-
-  abbrev read : Pair
-  read =
-      let values = start turn .args .values .now in
-      let n = at-loop turn .loop .n in
-      record { i = toZ w16 (ofZ w16 (getD values (2 * n) (pos 0))); q = toZ w16 (ofZ w16 (getD values (2 * n + 1) (pos 0))) }
-
-  read-is : getD (pairsOf (start turn .args .values .now)) (at-loop turn .loop .n) noPair ≡ read
-  read-is =
-      let values = start turn .args .values .now in
-      let n = at-loop turn .loop .n in
-      let i = held w16 (getD values (2 * n) (pos 0)) (c .before .before .push-arg5 .given) in
-      let q = held w16 (getD values (2 * n + 1) (pos 0)) (c .before .push-arg6 .given) in
-      pairs-at values n (below turn) ∙ sym (λ t. record { i = i t; q = q t })
-
-  pushed-is :
-      let a = start turn .args in
-      let l = at-loop turn .loop in
-      let x = c .push .last .1 .1 .1 .1 .1 in
-      Pushed (a .p) (a .h .now) (a .g .now) (a .k .now) (a .values .now) (a .out .now) (a .i .now) (a .q .now) (a .e .now) (a .err .now) (a .r) (a .w)
-      (l .i) (l .q) (l .e) (l .err) (l .registers) (l .position) read (x .0) (x .1 .0) (x .1 .1 .0) (x .1 .1 .1 .0) (c .push .result .registers) (c .push .result .position)
-      (c .push .result .made) (c .push .result .symbol)
-  pushed-is = record {
-    good = c .push .ensures .1 .0 .0;
-    samples = c .push .ensures .1 .0 .1;
-    long-i = c .push .kept .1 .1 .1 .1 .1 .0;
-    long-q = c .push .kept .1 .1 .1 .1 .1 .1 .0;
-    long-e = c .push .kept .1 .1 .1 .1 .1 .1 .1 .0;
-    long-err = c .push .kept .1 .1 .1 .1 .1 .1 .1 .1 .0;
-    makes = c .push .ensures .1 .1 .0;
-    goes = c .push .ensures .1 .1 .1;
-  }
-
+-- src/block.rt:175:9
 emit-requires : tie.Need-emit-requires Inv-loop μ-loop
-emit-requires c κs =
-    let u = c .before .before .before .before .before .before .before .before in
-    let t = u .before .before .before .before .before .before .before .before in
-    let inv = at-loop t .loop .inv in
-    (omega (arith, inv .few, inv .long, below t, start t .pre .1 .0), λ made. rw (u .push .ensures .0 made) (omega (arith, inv .at, below t, start t .pre .1 .1)))
+emit-requires c κs = ?
 
+-- src/block.rt:178:9
 add-n : tie.Need-add-n Inv-loop μ-loop
-add-n c =
-    let t = c .before .before .before .before .before .before .before .before .before .before .before .before .before .before .before .before .before .before .before .before in
-    record { fits = omega (arith, below t, start t .pre .1 .1) }
+add-n c = ?
 
+-- src/block.rt:158:5
 loop-less : tie.Need-loop-less Inv-loop μ-loop
-loop-less c =
-    let t = c .before .before .before .before .before .before .before .before .before .before .before .before .before .before .before .before .before .before .before .before in
-    omega (arith, below t)
+loop-less c = ?
 
+-- src/block.rt:158:5
 loop-again : tie.Need-loop-again Inv-loop μ-loop
-loop-again c =
-    let e = c .before .before .before in
-    let u = c .before .before .before .before .before .before .before .before .before .before .before .before in
-    let t = u .before .before .before .before .before .before .before .before in
-    let a = start t .args in
-    turned-next (a .p) (a .h .now) (a .g .now) (a .k .now) (a .values .now) (a .out .now) (a .i .now) (a .q .now) (a .e .now) (a .err .now) (a .r) (a .w)
-    (at-loop t .loop .inv) (below t) (read-is u) (pushed-is u) (e .emit .ensures .0) (e .emit .ensures .1) (e .emit .kept .0)
+loop-again c = ?
 
+-- src/block.rt:129:1
 same-length : tie.Need-same-length Inv-loop μ-loop
-same-length c = c .before .loop .inv .long
+same-length c = ?
 
+-- src/block.rt:129:1
 same-length-2 : tie.Need-same-length-2 Inv-loop μ-loop
-same-length-2 c = c .before .loop .inv .begun .long-i ∙ sym (c .before .before .before .before .before .pre .0 .long-i)
+same-length-2 c = ?
 
+-- src/block.rt:129:1
 same-length-3 : tie.Need-same-length-3 Inv-loop μ-loop
-same-length-3 c = c .before .loop .inv .begun .long-q ∙ sym (c .before .before .before .before .before .pre .0 .long-q)
+same-length-3 c = ?
 
+-- src/block.rt:129:1
 same-length-4 : tie.Need-same-length-4 Inv-loop μ-loop
-same-length-4 c = c .before .loop .inv .begun .long-e ∙ sym (c .before .before .before .before .before .pre .0 .long-e)
+same-length-4 c = ?
 
+-- src/block.rt:129:1
 same-length-5 : tie.Need-same-length-5 Inv-loop μ-loop
-same-length-5 c = c .before .loop .inv .begun .long-err ∙ sym (c .before .before .before .before .before .pre .0 .long-err)
+same-length-5 c = ?
 
+-- src/block.rt:129:1
 returns : tie.Need-returns Inv-loop μ-loop
-returns c =
-    let l = c .before in
-    let b = l .before .before .before .before in
-    let a = b .args in
-    let inv = l .loop .inv in
-    let s = sheetOf (a .p) (a .h .now) (a .g .now) (a .k .now) in
-    let all = all-taken (a .p) (a .h .now) (a .g .now) (a .k .now) (a .values .now) (a .out .now) (a .i .now) (a .q .now) (a .e .now) (a .err .now) (a .r) (a .w) (l .loop .n) (c .loop-test .left) in (
-      λ f first.
-          let o = subst (λ (xs : List Pair). Output (emitted s f xs) (a .out .now) (l .loop .out) (l .loop .count)) all (inv .output f first) in
-          (o .counted, o .places),
-      λ f first.
-          subst (λ (xs : List Pair). Stands (a .p .taps) (l .loop .i) (l .loop .q) (l .loop .e) (l .loop .err) (l .loop .registers) (l .loop .position) (after s f xs)) all (inv .stands f first),
-    )
+returns c = ?
 
 pub run-spec : {M : Type 1} → statement M
 run-spec =

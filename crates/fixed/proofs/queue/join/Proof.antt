@@ -1,15 +1,16 @@
--- `fixed::sample::queue` meets its contract: the errors go to the place that the ring's position names, and 32 bits hold them.
+-- `fixed::queue::join` meets its contract: the errors go to the place that the ring's position names.
+-- 32 bits hold them, so that what is stored is the error itself.
 use mathlib.Core.Path.{refl}
 use mir.Facts.{toZ-ofZ}
 use borrow.Author.Needs.{needs}
-use Rattle.fixed.proofs.sample.queue.Statement.{statement}
-use Rattle.fixed.proofs.sample.queue.Tie as tie
+use Rattle.fixed.proofs.queue.join.Statement.{statement}
+use Rattle.fixed.proofs.queue.join.Tie as tie
 
-add-in-queue : tie.Need-add-in-queue
-add-in-queue c = search needs
+add-in-ring : tie.Need-add-in-ring
+add-in-ring c = search needs
 
-in-queue-requires : tie.Need-in-queue-requires
-in-queue-requires c κs = search needs
+in-ring-requires : tie.Need-in-ring-requires
+in-ring-requires c κs = search needs
 
 mul-a : tie.Need-mul-a
 mul-a c = search needs
@@ -32,14 +33,14 @@ same-length-2 c = search needs
 returns : tie.Need-returns
 returns c =
     let a = c .before .before in
-    rw (c .in-queue .ensures, toZ-ofZ (a .fits .a), toZ-ofZ (a .fits .b)) (refl, refl)
+    rw (c .in-ring .ensures, toZ-ofZ (a .fits .a), toZ-ofZ (a .fits .b)) (refl, refl)
 
-pub queue-spec : {M : Type 1} → statement M
-queue-spec =
+pub join-spec : {M : Type 1} → statement M
+join-spec =
     tie.close
     (tie.spec
-    add-in-queue
-    in-queue-requires
+    add-in-ring
+    in-ring-requires
     mul-a
     slice-set-from-a
     mul-b

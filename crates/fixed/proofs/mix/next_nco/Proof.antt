@@ -1,4 +1,4 @@
--- `fixed::mix::turn` meets its contract: the step modulo 2^32, added to the phase word modulo 2^32, is the sum modulo 2^32.
+-- `fixed::mix::next_nco` meets its contract: the step modulo 2^32, added to the phase word modulo 2^32, is the sum modulo 2^32.
 -- Only one number below 2^32 differs from the sum by a multiple of 2^32 (arith, Modulus).
 use Prim.Native.Nat.{ℕ, _+_, _%_, _^_}
 use mathlib.Core.Path.{_∙_}
@@ -9,8 +9,8 @@ use borrow.Author.Needs.{needs}
 use Rattle.arith.proofs.Order.{add-pn}
 use Rattle.arith.proofs.Bits.{widens, widened}
 use Rattle.arith.proofs.Modulus.{Modulo, mod-is, mod-only}
-use Rattle.fixed.proofs.mix.turn.Statement.{statement}
-use Rattle.fixed.proofs.mix.turn.Tie as tie
+use Rattle.fixed.proofs.mix.next_nco.Statement.{statement}
+use Rattle.fixed.proofs.mix.next_nco.Tie as tie
 
 cast-wrap-u32 : tie.Need-cast-wrap-u32
 cast-wrap-u32 c = widens w64 tt (c .fits .step)
@@ -32,5 +32,5 @@ added n m z e = record { small = omega arith; alike = let s = add-pn (pos n) z i
 returns : tie.Need-returns
 returns c = c .wrapping-add-u32 .ensures ∙ mod-only _ _ (added (c .before .before .args .nco) _ _ (wrapped (c .before)))
 
-pub turn-spec : {M : Type 1} → statement M
-turn-spec = tie.close (tie.spec cast-wrap-u32 wrap-u32-requires wrapping-add-u32-requires returns)
+pub next-nco-spec : {M : Type 1} → statement M
+next-nco-spec = tie.close (tie.spec cast-wrap-u32 wrap-u32-requires wrapping-add-u32-requires returns)
