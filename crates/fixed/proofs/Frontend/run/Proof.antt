@@ -13,7 +13,7 @@ use Rattle.fixed.specs.declared.Position.{Position}
 use Rattle.fixed.specs.declared.Frontend.{Frontend}
 use Rattle.fixed.specs.Sample.{after, emitted}
 use Rattle.fixed.specs.Block.{Block, pairsOf, flattened, accepted}
-use Rattle.fixed.specs.Inside.{Stands}
+use Rattle.fixed.specs.Inside.{kept, Stands}
 use Rattle.fixed.proofs.States.{going}
 use Rattle.fixed.proofs.Verdicts.{Faultless, faultless, outline-good}
 use Rattle.fixed.proofs.Unpacked.{after-rest, line-packed, queue-packed, put-together}
@@ -76,7 +76,7 @@ start c = line-out c .before .before .before .before .before .before
 begins : (c : tie.After-position)
     → let l = line-out c .unpack-line .last .1 .1 in
     let q = queue-out c .unpack-pending .last .1 in
-    Stands (start c .args .p .taps) (l .0) (l .1 .0) (q .0) (q .1 .0) (start c .args .self .registers) (c .position .result) (start c .args .self)
+    Stands (start c .args .p .taps) (kept (l .0) (l .1 .0) (q .0) (q .1 .0) (start c .args .self .registers) (c .position .result)) (start c .args .self)
 begins c =
     let w = sym (c .position .ensures) in
     record {
@@ -112,8 +112,9 @@ ending c = let s = start (c .before) in after (sheet s) (s .args .self) (pairsOf
 
 ends : (c : tie.After-run)
     → let l = c .run .last .1 .1 .1 .1 .1 .1 in
-    Stands (start (c .before) .args .p .taps) (l .0) (l .1 .0) (l .1 .1 .0) (l .1 .1 .1 .0) (c .run .result .registers) (c .run .result .position) (ending c)
-ends c = c .run .ensures .1 (start (c .before) .args .self) (begins (c .before))
+    Stands (start (c .before) .args .p .taps)
+    (kept (l .0) (l .1 .0) (l .1 .1 .0) (l .1 .1 .1 .0) (c .run .result .registers) (c .run .result .position)) (ending c)
+ends c = c .run .ensures .state (start (c .before) .args .self) (begins (c .before))
 
 slice-aggregate-pack-line : tie.Need-slice-aggregate-pack-line
 slice-aggregate-pack-line c = search needs
@@ -156,13 +157,13 @@ returns c =
     let r = l .before .before .before .before .before .before .before .before .before .before in
     let s = start (r .before) in
     let a = s .args in
-    let written = r .run .ensures .0 (a .self) (begins (r .before)) in
+    let begin = begins (r .before) in
     let head = going (a .p) (a .self) (ok s .good) .head in
     answer (sheet s) (a .self) (a .values .now) (a .out .now) {o = r .run .last .1 .1 .1 .1 .1 .0}
     (put-together (ends r)
-    (line-packed (a .self .line) (ends r .line) (λ n h. after-rest (sheet s) (a .self) (pairsOf (a .values .now)) n head h) (l .pack-line .ensures .0) (l .pack-line .ensures .1))
+    (line-packed (a .self .line) (ends r .line) (λ n h. after-rest (sheet s) (a .self) (pairsOf (a .values .now)) n head h) (l .pack-line .ensures))
     (queue-packed (ends r .queue) (c .pack-pending .ensures)))
-    (written .0) (written .1)
+    (r .run .ensures .counted (a .self) begin) (r .run .ensures .written (a .self) begin)
 
 pub run-spec : {M : Type 1} → statement M
 run-spec =

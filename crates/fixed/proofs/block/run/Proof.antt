@@ -1,98 +1,169 @@
+-- `fixed::block::run` meets its contract: each turn reads one pair, pushes it and writes its symbol, and keeps what holds of the turns before (Turns).
+-- After the last turn all pairs are taken, and what holds is the contract.
+use Prim.Native.Nat.{_+_, _-_, _*_, _/_, _<_}
+use mathlib.Core.Path.{_≡_, sym, _∙_}
+use native.Mathlib.Omega.{arith}
+use lib.ListN.{length, getD}
+use lib.IntN.{pos}
+use mir.Syntax.{w16}
+use mir.Val.{toZ, ofZ}
+use borrow.Author.Needs.{needs}
+use Rattle.arith.proofs.Bits.{held}
+use Rattle.params.specs.Judge.{Sheet, sheetOf}
+use Rattle.fixed.specs.declared.Pair.{Pair}
+use Rattle.fixed.specs.Start.{noPair}
+use Rattle.fixed.specs.Block.{pairsOf}
+use Rattle.fixed.specs.Inside.{Kept, kept}
+use Rattle.fixed.proofs.Turns.{Turned, Turn, pairs-at, turned-none, turned-next, turned-ready, turned-all}
 use Rattle.fixed.proofs.block.run.Statement.{statement}
 use Rattle.fixed.proofs.block.run.Tie as tie
-use Rattle.fixed.proofs.block.run.Reads as reads
-use Rattle.fixed.proofs.block.run.Lts as lts
-use Rattle.fixed.proofs.block.emit.Reads as emit-reads
-use Rattle.fixed.proofs.sample.push.Reads as push-reads
-use Rattle.tables.proofs.cos_table.Reads as cos-table-reads
 
 abbrev Inv-loop : tie.InvT-loop
 Inv-loop p h g k values out₀ i₀ q₀ e₀ err₀ cos registers₀ position₀ count₀ n₀ out i q e err registers position count n =
-    ?
+    Turned (sheetOf p h g k) values out₀ (kept i₀ q₀ e₀ err₀ registers₀ position₀) out (kept i q e err registers position) count n
 
 abbrev μ-loop : tie.MeasureT-loop
 μ-loop p h g k values out₀ i₀ q₀ e₀ err₀ cos registers₀ position₀ count₀ n₀ out i q e err registers position count n =
-    ?
+    length values / 2 - n
 
--- src/block.rt:153:15
+-- ---- the sheet, and what is kept where the block begins
+
+module _ (b : tie.Start Inv-loop μ-loop) where
+  abbrev sheet : Sheet
+  sheet = sheetOf (b .args .p) (b .args .h .now) (b .args .g .now) (b .args .k .now)
+
+  abbrev x₀ : Kept
+  x₀ = kept (b .args .i .now) (b .args .q .now) (b .args .e .now) (b .args .err .now) (b .args .r) (b .args .w)
+
 cos-table-requires : tie.Need-cos-table-requires Inv-loop μ-loop
-cos-table-requires c κs = ?
+cos-table-requires c κs = tt
 
--- src/block.rt:158:5
 loop-holds : tie.Need-loop-holds Inv-loop μ-loop
-loop-holds c = ?
+loop-holds c =
+    let b = c .before .before .before in
+    turned-none (sheet b) (b .args .values .now) (b .args .out .now) (x₀ b) (b .pre .0)
 
--- src/block.rt:171:20
 mul-push : tie.Need-mul-push Inv-loop μ-loop
-mul-push c = ?
+mul-push c = search needs
 
--- src/block.rt:171:13
 mul-push-2 : tie.Need-mul-push-2 Inv-loop μ-loop
-mul-push-2 c = ?
+mul-push-2 c = search needs
 
--- src/block.rt:171:13
 shared-slice-copy-out-push : tie.Need-shared-slice-copy-out-push Inv-loop μ-loop
-shared-slice-copy-out-push c = ?
+shared-slice-copy-out-push c = search needs
 
--- src/block.rt:172:20
 mul-push-3 : tie.Need-mul-push-3 Inv-loop μ-loop
-mul-push-3 c = ?
+mul-push-3 c = search needs
 
--- src/block.rt:172:20
 add-push : tie.Need-add-push Inv-loop μ-loop
-add-push c = ?
+add-push c = search needs
 
--- src/block.rt:172:13
 mul-push-4 : tie.Need-mul-push-4 Inv-loop μ-loop
-mul-push-4 c = ?
+mul-push-4 c = search needs
 
--- src/block.rt:172:13
 shared-slice-copy-out-push-2 : tie.Need-shared-slice-copy-out-push-2 Inv-loop μ-loop
-shared-slice-copy-out-push-2 c = ?
+shared-slice-copy-out-push-2 c = search needs
 
--- src/block.rt:159:13
+-- ---- a turn
+
+module _ (c : tie.In-loop Inv-loop μ-loop) where
+  abbrev at-loop : tie.At-loop Inv-loop μ-loop
+  at-loop = c .before
+
+  abbrev start : tie.Start Inv-loop μ-loop
+  start = at-loop .before .before .before .before
+
+  below : at-loop .loop .n < length (start .args .values .now) / 2
+  below = c .loop-test .taken
+
 push-requires : tie.Need-push-requires Inv-loop μ-loop
-push-requires c κs = ?
+push-requires c κs =
+    let t = c .before .before .before .before .before .before .before in
+    let b = start t in (
+      at-loop t .before .cos-table .ensures,
+      turned-ready (sheet b) (b .args .values .now) (b .args .out .now) (x₀ b) (b .pre .1 .0) (b .pre .1 .1) (at-loop t .loop .inv) (below t),
+    )
 
--- src/block.rt:175:9
+module _ (c : tie.After-push Inv-loop μ-loop) where
+  abbrev turn : tie.In-loop Inv-loop μ-loop
+  turn = c .before .before .before .before .before .before .before .before
+
+  abbrev b : tie.Start Inv-loop μ-loop
+  b = start turn
+
+  abbrev read : Pair
+  read =
+      let values = b .args .values .now in
+      let n = at-loop turn .loop .n in
+      record { i = toZ w16 (ofZ w16 (getD values (2 * n) (pos 0))); q = toZ w16 (ofZ w16 (getD values (2 * n + 1) (pos 0))) }
+
+  read-is : getD (pairsOf (b .args .values .now)) (at-loop turn .loop .n) noPair ≡ read
+  read-is =
+      let values = b .args .values .now in
+      let n = at-loop turn .loop .n in
+      let i = held w16 (getD values (2 * n) (pos 0)) (c .before .before .push-arg5 .given) in
+      let q = held w16 (getD values (2 * n + 1) (pos 0)) (c .before .push-arg6 .given) in
+      pairs-at values n (below turn) ∙ sym (λ t. record { i = i t; q = q t })
+
+  -- What was kept before the sample, and what is kept after it.
+  abbrev before : Kept
+  before = let l = at-loop turn .loop in kept (l .i) (l .q) (l .e) (l .err) (l .registers) (l .position)
+
+  abbrev behind : Kept
+  behind =
+      let last = c .push .last .1 .1 .1 .1 .1 in
+      kept (last .0) (last .1 .0) (last .1 .1 .0) (last .1 .1 .1 .0) (c .push .result .registers) (c .push .result .position)
+
+  turns : Turn (sheet b) (b .args .values .now) (b .args .out .now) (x₀ b) before behind read (c .push .result .made) (c .push .result .symbol)
+  turns = record {
+    pushes = c .push .ensures;
+    long-i = c .push .kept .1 .1 .1 .1 .1 .0;
+    long-q = c .push .kept .1 .1 .1 .1 .1 .1 .0;
+    long-e = c .push .kept .1 .1 .1 .1 .1 .1 .1 .0;
+    long-err = c .push .kept .1 .1 .1 .1 .1 .1 .1 .1 .0;
+  }
+
 emit-requires : tie.Need-emit-requires Inv-loop μ-loop
-emit-requires c κs = ?
+emit-requires c κs = search needs
 
--- src/block.rt:178:9
 add-n : tie.Need-add-n Inv-loop μ-loop
-add-n c = ?
+add-n c =
+    let t = c .before .before .before .before .before .before .before .before .before .before .before .before .before .before .before .before .before .before .before .before in
+    record { fits = omega (arith, below t, start t .pre .1 .1) }
 
--- src/block.rt:158:5
 loop-less : tie.Need-loop-less Inv-loop μ-loop
-loop-less c = ?
+loop-less c =
+    let t = c .before .before .before .before .before .before .before .before .before .before .before .before .before .before .before .before .before .before .before .before in
+    omega (arith, below t)
 
--- src/block.rt:158:5
 loop-again : tie.Need-loop-again Inv-loop μ-loop
-loop-again c = ?
+loop-again c =
+    let e = c .before .before .before in
+    let u = c .before .before .before .before .before .before .before .before .before .before .before .before in
+    let b = b u in
+    turned-next (sheet b) (b .args .values .now) (b .args .out .now) (x₀ b) (b .pre .1 .0) (b .pre .1 .1)
+    (at-loop (turn u) .loop .inv) (below (turn u)) (read-is u) (turns u) (e .emit .ensures) (e .emit .kept .0)
 
--- src/block.rt:129:1
 same-length : tie.Need-same-length Inv-loop μ-loop
-same-length c = ?
+same-length c = c .before .loop .inv .long
 
--- src/block.rt:129:1
 same-length-2 : tie.Need-same-length-2 Inv-loop μ-loop
-same-length-2 c = ?
+same-length-2 c = c .before .loop .inv .begun .long-i ∙ sym (c .before .before .before .before .before .pre .0 .long-i)
 
--- src/block.rt:129:1
 same-length-3 : tie.Need-same-length-3 Inv-loop μ-loop
-same-length-3 c = ?
+same-length-3 c = c .before .loop .inv .begun .long-q ∙ sym (c .before .before .before .before .before .pre .0 .long-q)
 
--- src/block.rt:129:1
 same-length-4 : tie.Need-same-length-4 Inv-loop μ-loop
-same-length-4 c = ?
+same-length-4 c = c .before .loop .inv .begun .long-e ∙ sym (c .before .before .before .before .before .pre .0 .long-e)
 
--- src/block.rt:129:1
 same-length-5 : tie.Need-same-length-5 Inv-loop μ-loop
-same-length-5 c = ?
+same-length-5 c = c .before .loop .inv .begun .long-err ∙ sym (c .before .before .before .before .before .pre .0 .long-err)
 
--- src/block.rt:129:1
 returns : tie.Need-returns Inv-loop μ-loop
-returns c = ?
+returns c =
+    let l = c .before in
+    let b = l .before .before .before .before in
+    turned-all (sheet b) (b .args .values .now) (b .args .out .now) (x₀ b) (l .loop .inv) (c .loop-test .left)
 
 pub run-spec : {M : Type 1} → statement M
 run-spec =
