@@ -3,8 +3,8 @@
 use crate::places;
 use fixed::Frontend;
 use fixed::Pair;
-use fixed::Pending;
-use fixed::Registers;
+use registers::Pending;
+use registers::Registers;
 ghost use mathlib.Core.Path.{_≡_};
 ghost use mathlib.Core.Bool.{true};
 ghost use mathlib.Core.List.{_++_};

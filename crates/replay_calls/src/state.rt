@@ -2,8 +2,8 @@
 // waiting errors. Both as they are stored.
 use fixed::Frontend;
 use fixed::Pair;
-use fixed::Pending;
-use fixed::Registers;
+use registers::Pending;
+use registers::Registers;
 use replay::rows;
 ghost use Prim.Native.Nat.{_<_};
 

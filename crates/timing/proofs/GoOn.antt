@@ -47,17 +47,21 @@ numbered s f c = go (eqb n 0) refl
     go true e = rw e (sym (eqb-true n 0 e))
     go false e = rw e
 
+-- no refusal, or one of 10 to 12
+abbrev Own : ℕ → Type 0
+Own n = (n ≡ 0) ⊎ ((10 ≤ n) × (n ≤ 12))
+
 -- faults of which only 10, 11 and 12 are left
 own : (l : List Refusal) → l ≡ [] → (f : Frontend) (values places : ℕ)
-    → let r = firstOf (l ++ sizeFaults f values places) in (r .number ≡ 0) ⊎ (10 ≤ r .number)
+    → let r = firstOf (l ++ sizeFaults f values places) in Own (r .number)
 unfolding sizeFaults flatten
 own l e f values places =
     rw e (by (eqb (values % 2) 0) (leb (20 * (values / 2)) places) (leb (f .samples + values / 2) 9223372036854775807))
   where
-    by : (x y z : Bool) → let r = firstOf (unless x (refusal 10 []) ++ (unless y (refusal 11 []) ++ (unless z (refusal 12 []) ++ []))) in (r .number ≡ 0) ⊎ (10 ≤ r .number)
-    by false y z = inr (omega arith)
-    by true false z = inr (omega arith)
-    by true true false = inr (omega arith)
+    by : (x y z : Bool) → let r = firstOf (unless x (refusal 10 []) ++ (unless y (refusal 11 []) ++ (unless z (refusal 12 []) ++ []))) in Own (r .number)
+    by false y z = inr (omega arith, omega arith)
+    by true false z = inr (omega arith, omega arith)
+    by true true false = inr (omega arith, omega arith)
     by true true true = inl refl
 
 pub states-go-on : StatesGoOn
@@ -67,5 +71,5 @@ states-go-on s ok cs c =
     let f : Frontend = endState s cs in
     let g = good (s .params) f (going s (no-faults s none) f _ (ends-inv s ok cs)) in
     let e : stateFaults s f ≡ [] = ap (λ (l : List Refusal). l ++ unless (goodState (s .params) f) (refusal 9 [])) none ∙ ap (λ (b : Bool). unless b (refusal 9 [])) g in
-    subst (λ (n : ℕ). (n ≡ 0) ⊎ (10 ≤ n)) (sym (numbered s f c))
+    subst Own (sym (numbered s f c))
     (own (stateFaults s f) e f (length (c .values)) (length (c .out)))

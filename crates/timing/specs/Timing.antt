@@ -109,4 +109,4 @@ TimingHolds = (s : Sheet) → startOf s .refused ≡ nothing → Timing s
 abbrev pub StatesGoOn : Type 0
 StatesGoOn =
     (s : Sheet) → startOf s .refused ≡ nothing → (cs : List Call) (c : Call)
-    → (answer s (endState s cs) c .refused .number ≡ 0) ⊎ (10 ≤ answer s (endState s cs) c .refused .number)
+    → let n : ℕ = answer s (endState s cs) c .refused .number in (n ≡ 0) ⊎ ((10 ≤ n) × (n ≤ 12))
