@@ -4,6 +4,7 @@
 set -eu
 cd "$(dirname "$0")/.."
 : "${RT:=rt}" "${ISDB_RS:=../shared/docs/src}" "${SCALE:=1}" "${STEP:=16}"
+export RT
 source=$ISDB_RS/crates/isdb-frontend/src
 work=target/oracle
 
@@ -26,8 +27,8 @@ for profile in release checked; do
     (cd oracle && cargo build --offline --quiet --profile $profile)
 done
 echo "oracle: proving and linking the replay programs, the symbol program and the archive .."
-$RT check replay_leaves replay_calls replay_floats symbols >"$work/check.out" 2>&1 || { tail -n 20 "$work/check.out"; exit 1; }
-$RT staticlib archive >"$work/archive.out" 2>&1 || { tail -n 20 "$work/archive.out"; exit 1; }
+sh tools/prove.sh "$work/check.out" check replay_leaves replay_calls replay_floats symbols
+sh tools/archive.sh
 (cd oracle/archive && cargo build --offline --quiet --release)
 rust=oracle/target/release/oracle
 checked=oracle/target/checked/oracle

@@ -2,7 +2,8 @@
 //! (crates/archive). A sheet that cannot be read is 18 or 19, then come 1 to 8; places that are those of no state are 9.
 
 use crate::calls::Call;
-use archive_calls::{STATE, SYMBOL, Sheet};
+use archive_calls::Sheet;
+use huntelm::archive::{STATE, SYMBOL};
 use oracle::reading::Reading;
 use oracle::sheet::{FIELDS, Sheet as Fields};
 use oracle::state::State;
