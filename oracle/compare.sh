@@ -10,7 +10,7 @@ work=target/oracle
 
 absent() {
     echo "oracle: $1"
-    echo "oracle: nothing was compared. Without the Rust every answer rests on the definitions in specs/ alone, which were written from document 01;"
+    echo "oracle: nothing was compared. Without the Rust every answer rests on the definitions in specs/ alone, which say what docs/RULES.md says;"
     echo "oracle: what is stored of the Rust's answers in crates/replay_*/stdin is still replayed by make test."
     exit 1
 }
@@ -87,7 +87,7 @@ done
 # Floats: the samples of one in 16 of all 2^32 f32, and of all near a tie, a whole number or an end of what an f32 can be; STEP=1 takes every f32.
 replayed "float samples, one f32 in $STEP and all that stand out" replay_floats samples "$STEP"
 
-# Designs at every corner, strange ones and ordinary ones, wherever isdb-rs answers with registers or a refusal of document 01; and designs that are judged with banks and gains.
+# Designs at every corner, strange ones and ordinary ones, wherever isdb-rs answers with registers or a refusal of RULES 6.3; and designs that are judged with banks and gains.
 replayed "registers of designs" replay_floats floats designs 1 $((52000 * SCALE))
 replayed "sheets of designs, judged" replay_floats floats sheets 1 $((4000 * SCALE))
 replayed "sheets of designs, judged, few taps" replay_floats floats small 1 $((10000 * SCALE))

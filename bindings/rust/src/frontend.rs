@@ -21,7 +21,8 @@ pub struct Symbol {
     pub yk: [i16; 2],
     /// The gain in force, 1024 for a gain of 1.
     pub gain: u16,
-    /// The period in force, 2^24 to the sample.
+    /// The period in force, 2^24 to the sample. It has the correction for one noisy error in it: how far the clocks are apart is said by the mean
+    /// over thousands of symbols, see [`Params::offset`].
     pub period: u32,
     /// `y` times the gain.
     pub z: [i16; 2],
@@ -173,7 +174,7 @@ impl Frontend {
         &self.params
     }
 
-    /// The period, 2^24 to the sample.
+    /// The period of the last symbol, 2^24 to the sample; no measure of a clock, see [`Params::offset`].
     pub fn period(&self) -> u32 {
         self.read()[0] as u32
     }

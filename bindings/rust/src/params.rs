@@ -99,6 +99,17 @@ impl Params {
 
     /// How far a period is from the nominal one, in parts per thousand million, rounded down.
     ///
+    /// The period of one symbol has the loop's correction for one noisy error in it and jumps by thousands of parts in a million; its offset says nothing
+    /// of a clock. Ask for the mean of the periods of thousands of symbols, once the loop has locked:
+    ///
+    /// ```
+    /// # use huntelm::{Params, Refusal, Symbol};
+    /// fn clock_offset(params: &Params, symbols: &[Symbol]) -> Result<i64, Refusal> {
+    ///     let sum: u64 = symbols.iter().map(|s| u64::from(s.period)).sum();
+    ///     params.offset((sum / symbols.len() as u64) as u32)
+    /// }
+    /// ```
+    ///
     /// # Errors
     ///
     /// 1 to 8 as [`validate`](Self::validate) has them, then 13 for a period outside period_min..period_max.

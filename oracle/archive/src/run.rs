@@ -133,7 +133,7 @@ impl<'a> Run<'a> {
     }
 
     /// The end state changed at random, within what refusal 9 lets pass, and blocks from it on. isdb-rs cannot be given such a state, so the reading of
-    /// document 01 answers.
+    /// docs/RULES.md answers.
     pub fn change(&mut self) {
         let reading = Reading::of(self.fields);
         let end = State::of(&self.front);
