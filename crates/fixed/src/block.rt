@@ -108,10 +108,8 @@ pub(crate) fn pack_pending(pending: [Pending; 24], e: &[i32], err: &[i32]) -> [P
 
 // A symbol goes behind `count` others, if one was made; the answer is how many there then are.
 fn emit(out: &mut [i64], count: usize, made: bool, y: Symbol) -> usize
-    ensures {
-        λ r. ⌜
-        record { count = r; output = now (out .exit) } ≡ cond made (putOf y count (now (out .entry))) (record { count = count; output = now (out .entry) }) ⌝
-    }
+    ensures { λ r. ⌜
+        record { count = r; output = now (out .exit) } ≡ cond made (putOf y count (now (out .entry))) (record { count = count; output = now (out .entry) }) ⌝ }
 {
     if !made {
         return count;
@@ -142,13 +140,11 @@ pub(crate) fn run(
 ) -> Ran
     requires { ⌜ Begun (sheetOf p (now h) (now g) (now k)) (kept (now i) (now q) (now e) (now err) r w) ⌝ }
     requires { ⌜ (20 * (length (now values) / 2) ≤ length (now out)) × (w .samples + length (now values) / 2 ≤ 9223372036854775807) ⌝ }
-    ensures {
-        λ s. ⌜
+    ensures { λ s. ⌜
         Runs (sheetOf p (now (h .entry)) (now (g .entry)) (now (k .entry)))
         (kept (now (i .entry)) (now (q .entry)) (now (e .entry)) (now (err .entry)) r w)
         (kept (now (i .exit)) (now (q .exit)) (now (e .exit)) (now (err .exit)) (s .registers) (s .position))
-        (now (values .entry)) (now (out .entry)) (now (out .exit)) (s .count) ⌝
-    }
+        (now (values .entry)) (now (out .entry)) (now (out .exit)) (s .count) ⌝ }
 {
     let cos = tables::cos_table();
     let mut registers = r;

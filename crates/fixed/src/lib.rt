@@ -1,4 +1,30 @@
 // The fixed-point front end: what it keeps between samples, what it makes of them, and what its calls answer.
+//
+// A sample I, Q (16 bits each) goes through these steps; R(v, s) is v / 2^s rounded to the nearest whole number, a half upward, and >> rounds down.
+//
+//  1. Mixer (mix.rt), with w the cosine wheel of 1,024 steps:
+//       i = nco >> 22, c = w[i], s = w[i + 768]
+//       re = (I c - Q s + 2^14) >> 15, im = (I s + Q c + 2^14) >> 15           32 bits
+//       nco = nco + nco_step                                                  modulo 2^32
+//  2. Line (line.rt): the pair is the newest of the last `taps`.
+//  3. If t < 2^24 a symbol is made (sample.rt):
+//       phase = t >> 18                                                       0 to 63
+//     a. Loop (crates/registers), if 24 errors wait (queue.rt), with the oldest e and err:
+//          v = v + R(ki e, ki_shift)                                          within +-integrator_max 2^16
+//          period = nominal + (v >> 16) + R(kp e, kp_shift)                   min to max
+//          acc = acc + (err >> agc_shift)                                     24 bits
+//     b. Filters (filter.rt), over the line newest first, row `phase` of h, g and k:
+//          three sums each for I and Q                                        64 bits
+//     c. Symbol (crates/symbol):
+//          y, dy, yk = R(sum, 14)                                             16 bits, clipped
+//          z, dz, zk = R(y gain, 10) and so on, gain = acc >> 8               16 bits, clipped
+//          q = R(zk, q_shift)                                                 `bits` bits, clipped
+//          e = (z_i dz_i + z_q dz_q) >> ted_shift                             24 bits, clipped
+//          err = agc_target - ((zk_i^2 + zk_q^2) >> 12)                       32 bits, wrapped
+//     d. e and err wait (queue.rt); t = t + period.
+//  4. t = t - 2^24, and one more sample is counted.
+//
+// A block (block.rt) takes samples one after the other and writes 20 places a symbol.
 mod block;
 mod filter;
 mod line;
@@ -172,7 +198,9 @@ impl Frontend {
         values: &[i16],
         out: &[i64],
     ) -> FrontendVerdict
-        ensures { λ r. ⌜ frontendRefusal r ≡ firstOf (blockFaults (sheetOf p (now (h .entry)) (now (g .entry)) (now (k .entry))) self (now (values .entry)) (now (out .entry))) ⌝ }
+        ensures { λ r. ⌜
+            frontendRefusal r ≡ firstOf (blockFaults (sheetOf p (now (h .entry)) (now (g .entry)) (now (k .entry))) self
+            (now (values .entry)) (now (out .entry))) ⌝ }
     {
         let verdict = self.check_state(p, h, g, k);
         match verdict {
@@ -230,7 +258,9 @@ impl Frontend {
         values: &[i16],
         out: &mut [i64],
     ) -> Processed
-        ensures { λ r. ⌜ processed r (now (out .exit)) ≡ blockOf (sheetOf p (now (h .entry)) (now (g .entry)) (now (k .entry))) self (now (values .entry)) (now (out .entry)) ⌝ }
+        ensures { λ r. ⌜
+            processed r (now (out .exit)) ≡ blockOf (sheetOf p (now (h .entry)) (now (g .entry)) (now (k .entry))) self
+            (now (values .entry)) (now (out .entry)) ⌝ }
     {
         let verdict = self.check_block(p, h, g, k, values, &*out);
         match verdict {
@@ -254,7 +284,9 @@ impl Frontend {
         out: &mut [i64],
     ) -> Processed
         requires { ⌜ blockFaults (sheetOf p (now h) (now g) (now k)) self (now values) (now out) ≡ [] ⌝ }
-        ensures { λ r. ⌜ processed r (now (out .exit)) ≡ accepted (sheetOf p (now (h .entry)) (now (g .entry)) (now (k .entry))) self (now (values .entry)) (now (out .entry)) ⌝ }
+        ensures { λ r. ⌜
+            processed r (now (out .exit)) ≡ accepted (sheetOf p (now (h .entry)) (now (g .entry)) (now (k .entry))) self
+            (now (values .entry)) (now (out .entry)) ⌝ }
     {
         let taps = p.taps as usize;
         let mut i = [0u32; 128];

@@ -47,14 +47,12 @@ pub(crate) fn join(e: &mut [i32], err: &mut [i32], w: Position, a: i32, b: i32)
 // The positions after a symbol's sample: where 24 errors wait the oldest leave, and otherwise one more waits.
 pub(crate) fn after_symbol(w: Position) -> Position
     requires { ⌜ (w .oldest < 24) × ((w .waiting ≤ 24) × (w .samples < 9223372036854775807)) ⌝ }
-    ensures {
-        λ s. ⌜ s ≡ record {
-          head = w .head;
-          oldest = cond (eqb (w .waiting) 24) ((w .oldest + 1) % 24) (w .oldest);
-          waiting = cond (eqb (w .waiting) 24) 24 (w .waiting + 1);
-          samples = w .samples + 1;
-        } ⌝
-    }
+    ensures { λ s. ⌜ s ≡ record {
+      head = w .head;
+      oldest = cond (eqb (w .waiting) 24) ((w .oldest + 1) % 24) (w .oldest);
+      waiting = cond (eqb (w .waiting) 24) 24 (w .waiting + 1);
+      samples = w .samples + 1;
+    } ⌝ }
 {
     if w.waiting == 24 {
         return Position {

@@ -55,11 +55,9 @@ fn symbol_at(
     requires { ⌜ Tuned (sheetOf p (now h) (now g) (now k)) (now i) (now q) r w ⌝ }
     requires { ⌜ phase < 64 ⌝ }
     ensures sample { λ y. ⌜ y .sample ≡ w .samples ⌝ }
-    ensures symbol {
-        λ y. ⌜
+    ensures symbol { λ y. ⌜
         ((l : List Pair) → Laid (p .taps) (now (i .entry)) (now (q .entry)) l → y ≡ symbolFrom p (r .«gain_acc» / 256) (r .period) (w .samples) phase
-        (filtered (sheetOf p (now (h .entry)) (now (g .entry)) (now (k .entry))) phase l (w .head))) ⌝
-    }
+        (filtered (sheetOf p (now (h .entry)) (now (g .entry)) (now (k .entry))) phase l (w .head))) ⌝ }
 {
     let taps = p.taps as usize;
     let a = phase * taps;
@@ -86,12 +84,10 @@ fn with_symbol(
     requires { ⌜ Ready (sheetOf p (now h) (now g) (now k)) (kept (now i) (now q) (now e) (now err) r w) ⌝ }
     requires { ⌜ ltZ (r .«t_acc») one ≡ true ⌝ }
     ensures made { λ s. ⌜ s .made ≡ true ⌝ }
-    ensures symbol {
-        λ s. ⌜
+    ensures symbol { λ s. ⌜
         MakesSymbol (sheetOf p (now (h .entry)) (now (g .entry)) (now (k .entry)))
         (kept (now (i .entry)) (now (q .entry)) (now (e .entry)) (now (err .entry)) r w)
-        (kept (now (i .entry)) (now (q .entry)) (now (e .exit)) (now (err .exit)) (s .registers) (s .position)) (s .symbol) ⌝
-    }
+        (kept (now (i .entry)) (now (q .entry)) (now (e .exit)) (now (err .exit)) (s .registers) (s .position)) (s .symbol) ⌝ }
 {
     let phase = (r.t_acc >> 18) as usize;
     let oldest = queue::oldest(&*e, &*err, w);
@@ -137,16 +133,14 @@ fn no_symbol() -> Symbol {
 // Only the time goes on.
 fn without_symbol(r: Registers, w: Position) -> Pushed
     requires { ⌜ (natAbs (r .«t_acc») ≤ 2 ^ 61) × (w .samples < 9223372036854775807) ⌝ }
-    ensures registers {
-        λ s. ⌜ s .registers ≡ record {
-          nco = r .nco;
-          «t_acc» = r .«t_acc» -ℤ one;
-          v = r .v;
-          period = r .period;
-          «gain_acc» = r .«gain_acc»;
-          symbols = r .symbols;
-        } ⌝
-    }
+    ensures registers { λ s. ⌜ s .registers ≡ record {
+      nco = r .nco;
+      «t_acc» = r .«t_acc» -ℤ one;
+      v = r .v;
+      period = r .period;
+      «gain_acc» = r .«gain_acc»;
+      symbols = r .symbols;
+    } ⌝ }
     ensures position { λ s. ⌜ s .position ≡ record { head = w .head; oldest = w .oldest; waiting = w .waiting; samples = w .samples + 1 } ⌝ }
     ensures made { λ s. ⌜ s .made ≡ false ⌝ }
 {
@@ -192,13 +186,11 @@ pub(crate) fn push(
 ) -> Pushed
     requires { ⌜ now cos ≡ wheelTable ⌝ }
     requires { ⌜ Ready (sheetOf p (now h) (now g) (now k)) (kept (now i) (now q) (now e) (now err) r w) ⌝ }
-    ensures {
-        λ s. ⌜
+    ensures { λ s. ⌜
         Pushes (sheetOf p (now (h .entry)) (now (g .entry)) (now (k .entry)))
         (kept (now (i .entry)) (now (q .entry)) (now (e .entry)) (now (err .entry)) r w)
         (kept (now (i .exit)) (now (q .exit)) (now (e .exit)) (now (err .exit)) (s .registers) (s .position))
-        (record { i = x; q = y }) (s .made) (s .symbol) ⌝
-    }
+        (record { i = x; q = y }) (s .made) (s .symbol) ⌝ }
 {
     let taps = p.taps as usize;
     let m = mix::mix(cos, r.nco, x, y);
