@@ -22,18 +22,19 @@ use Rattle.registers.specs.Step.{one, found, left, afterSymbol}
 use Rattle.registers.proofs.Loops.{Loop, Within}
 use Rattle.symbol.specs.declared.Symbol.{Symbol}
 use Rattle.symbol.specs.Make.{symbolFrom}
-use Rattle.fixed.specs.declared.Pair.{Pair}
-use Rattle.fixed.specs.declared.Frontend.{Frontend}
-use Rattle.fixed.specs.declared.Position.{Position}
-use Rattle.fixed.specs.Start.{noPair, noPending}
+use Rattle.state.specs.declared.Pair.{Pair}
+use Rattle.state.specs.declared.Frontend.{Frontend}
+use Rattle.state.specs.declared.Position.{Position}
+use Rattle.state.specs.Start.{noPair, noPending}
 use Rattle.fixed.specs.Mix.{mixed, nextNco}
 use Rattle.fixed.specs.Line.{nextHead}
 use Rattle.fixed.specs.Filter.{filtered}
 use Rattle.fixed.specs.Queue.{oldestErrors}
 use Rattle.fixed.specs.Sample.{due, symbolOf, joined, withSymbol, withoutSymbol, falls, next, madeBy}
-use Rattle.fixed.specs.Block.{goodState}
-use Rattle.fixed.specs.Inside.{lowered, Twice, Laid, Queued, errorsAt, outline, Kept, kept, Stands, Ready, GoesOn}
-use Rattle.fixed.proofs.States.{time, head-below, Going, going, good, due-within, without-symbol-going, with-symbol-going}
+use Rattle.state.specs.Check.{goodState, outline}
+use Rattle.fixed.specs.Inside.{lowered, Twice, Laid, Queued, errorsAt, Kept, kept, Stands, Ready, GoesOn}
+use Rattle.state.proofs.Going.{time, Going, going, good}
+use Rattle.fixed.proofs.States.{head-below, due-within, without-symbol-going, with-symbol-going}
 use Rattle.fixed.proofs.OneStep.{one-step}
 
 -- ---- the line

@@ -7,6 +7,5 @@ pub mod RowSums
 pub mod Centre
 pub mod Kept
 pub mod Turns
-pub mod Verdicts
 pub mod Unpacked
 pub mod Windows

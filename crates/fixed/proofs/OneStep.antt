@@ -9,11 +9,11 @@ use lib.Signed.{leZ}
 use borrow.Author.Tests.{lt-ltb, le-leb}
 use Rattle.params.specs.declared.Params.{Params}
 use Rattle.registers.specs.Step.{canMakeSymbol, afterSymbol}
-use Rattle.fixed.specs.declared.Frontend.{Frontend}
+use Rattle.state.specs.declared.Frontend.{Frontend}
 use Rattle.fixed.specs.Sample.{due, withSymbol, falls}
-use Rattle.fixed.specs.Block.{goodState}
+use Rattle.state.specs.Check.{goodState}
 use Rattle.fixed.specs.OneStep.{OneStep}
-use Rattle.fixed.proofs.States.{time, going, both}
+use Rattle.state.proofs.Going.{time, going, both}
 
 can-make : (p : Params) (f : Frontend) → goodState p f ≡ true → falls f ≡ true → f .samples < 18446744073709551615 → canMakeSymbol p (f .registers) ≡ true
 unfolding canMakeSymbol

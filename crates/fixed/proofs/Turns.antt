@@ -12,9 +12,9 @@ use borrow.Author.Tests.{lt-ltb, le-leb}
 use Rattle.params.specs.Judge.{Sheet}
 use Rattle.symbol.specs.declared.Symbol.{Symbol}
 use Rattle.symbol.specs.Places.{placesOf, Put, hasRoom, putOf}
-use Rattle.fixed.specs.declared.Pair.{Pair}
-use Rattle.fixed.specs.declared.Frontend.{Frontend}
-use Rattle.fixed.specs.Start.{noPair}
+use Rattle.state.specs.declared.Pair.{Pair}
+use Rattle.state.specs.declared.Frontend.{Frontend}
+use Rattle.state.specs.Start.{noPair}
 use Rattle.fixed.specs.Sample.{madeBy, after, emitted}
 use Rattle.fixed.specs.Block.{pairsOf, flattened}
 use Rattle.fixed.specs.Inside.{Kept, Stands, Begun, Ready, Pushes, Runs}

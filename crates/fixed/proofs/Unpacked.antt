@@ -11,11 +11,11 @@ use lib.Seq.{ext-getD, getD-set-other}
 use lib.IntN.{ℤ}
 use borrow.Author.Tests.{ltb-true, ltb-false}
 use Rattle.params.specs.Judge.{Sheet}
-use Rattle.fixed.specs.declared.Pair.{Pair}
+use Rattle.state.specs.declared.Pair.{Pair}
 use Rattle.registers.specs.declared.Pending.{Pending}
-use Rattle.fixed.specs.declared.Position.{Position}
-use Rattle.fixed.specs.declared.Frontend.{Frontend}
-use Rattle.fixed.specs.Start.{noPair, noPending}
+use Rattle.state.specs.declared.Position.{Position}
+use Rattle.state.specs.declared.Frontend.{Frontend}
+use Rattle.state.specs.Start.{noPair, noPending}
 use Rattle.fixed.specs.Mix.{mixed}
 use Rattle.fixed.specs.Line.{nextHead}
 use Rattle.fixed.specs.Sample.{joined, withSymbol, withoutSymbol, falls, next, after}

@@ -6,7 +6,7 @@ use lib.ListN.{getD}
 use lib.IntN.{ℤ, pos, _+ℤ_, _*ℤ_}
 use Rattle.params.specs.Judge.{Sheet, rowOf}
 use Rattle.symbol.specs.declared.Sums.{Sums}
-use Rattle.fixed.specs.declared.Pair.{Pair}
+use Rattle.state.specs.declared.Pair.{Pair}
 use Rattle.fixed.specs.Line.{nthNewest}
 
 -- f 0 + f 1 + .. + f (n - 1).

@@ -13,13 +13,14 @@ use Rattle.registers.specs.declared.Pending.{Pending}
 use Rattle.registers.specs.declared.Registers.{Registers}
 use Rattle.symbol.specs.declared.Sums.{Sums}
 use Rattle.symbol.specs.declared.Symbol.{Symbol}
-use Rattle.fixed.specs.declared.Pair.{Pair}
-use Rattle.fixed.specs.declared.Frontend.{Frontend}
-use Rattle.fixed.specs.declared.Position.{Position}
-use Rattle.fixed.specs.Start.{noPair, noPending}
+use Rattle.state.specs.declared.Pair.{Pair}
+use Rattle.state.specs.declared.Frontend.{Frontend}
+use Rattle.state.specs.declared.Position.{Position}
+use Rattle.state.specs.Start.{noPair, noPending}
 use Rattle.fixed.specs.Filter.{sumTo}
 use Rattle.fixed.specs.Sample.{symbolOf, withSymbol, next, madeBy, after, emitted}
-use Rattle.fixed.specs.Block.{goodState, pairsOf, flattened}
+use Rattle.state.specs.Check.{goodState, outline}
+use Rattle.fixed.specs.Block.{pairsOf, flattened}
 
 -- ---- the line
 
@@ -105,10 +106,6 @@ pub record Stands (taps : ℕ) (x : Kept) (f : Frontend) : Type 0 where
   pub oldest : f .oldest ≡ x .position .oldest
   pub waiting : f .waiting ≡ x .position .waiting
   pub samples : f .samples ≡ x .position .samples
-
--- A state of which only the registers and positions count.
-abbrev pub outline : Registers → Position → Frontend
-outline r w = record { registers = r; line = []; head = w .head; pending = []; oldest = w .oldest; waiting = w .waiting; samples = w .samples }
 
 -- A sheet that is accepted, registers and positions that a block can go on from, and arrays at their sizes.
 pub record Begun (s : Sheet) (x : Kept) : Type 0 where

@@ -1,7 +1,6 @@
--- What a reader has to believe of the front end, in the order in which a sample travels: from the fresh state through mixer, line, filter and waiting
--- errors to the state after a sample, then a block of samples. Behind them: what is claimed of a symbol and the registers, and what the functions inside a
+-- What a reader has to believe of the front end, in the order in which a sample travels: through mixer, line, filter and waiting errors to
+-- the state after it, then a block of samples. Behind them: what is claimed of a symbol and the registers, and what the functions inside a
 -- block promise one another.
-pub mod Start
 pub mod Mix
 pub mod Line
 pub mod Filter

@@ -6,7 +6,7 @@ use lib.Signed.{shrZ}
 use Rattle.arith.specs.Arith.{modZ}
 use Rattle.tables.specs.Wheel.{wheel}
 use Rattle.params.specs.declared.Params.{Params}
-use Rattle.fixed.specs.declared.Pair.{Pair}
+use Rattle.state.specs.declared.Pair.{Pair}
 
 -- A sum of two products with the wheel, brought back from its 15 fractional bits, a half upward.
 abbrev pub unscaled : ℤ → ℤ

@@ -5,10 +5,10 @@ use mathlib.Core.Path.{_≡_}
 use mathlib.Core.Bool.{true}
 use Rattle.params.specs.Judge.{Sheet}
 use Rattle.registers.specs.Step.{afterSymbol}
-use Rattle.fixed.specs.declared.Frontend.{Frontend}
+use Rattle.state.specs.declared.Frontend.{Frontend}
 use Rattle.fixed.specs.Queue.{isFull, oldestErrors}
 use Rattle.fixed.specs.Sample.{withSymbol, falls}
-use Rattle.fixed.specs.Block.{goodState}
+use Rattle.state.specs.Check.{goodState}
 
 abbrev pub OneStep : Type 0
 OneStep =

@@ -3,19 +3,15 @@
 use Prim.Native.Nat.{ℕ, _+_, _%_}
 use mathlib.Core.Bool.{Bool, cond}
 use mathlib.Core.List.{List}
-use lib.Dec.{eqb}
 use lib.ListN.{getD, set}
 use Rattle.registers.specs.declared.Pending.{Pending}
-use Rattle.fixed.specs.declared.Frontend.{Frontend}
-use Rattle.fixed.specs.Start.{noPending}
-
--- The errors of a symbol are applied at the symbol that comes this many later.
-abbrev pub loopDelay : ℕ
-loopDelay = 24
+use Rattle.registers.specs.Step.{loopDelay, isDue}
+use Rattle.state.specs.declared.Frontend.{Frontend}
+use Rattle.state.specs.Start.{noPending}
 
 -- As many wait as the loop's delay, so the oldest are due.
 abbrev pub isFull : Frontend → Bool
-isFull f = eqb (f .waiting) loopDelay
+isFull f = isDue (f .waiting)
 
 -- The errors that wait longest.
 abbrev pub oldestErrors : Frontend → Pending

@@ -12,8 +12,8 @@ use Rattle.registers.specs.declared.Registers.{Registers}
 use Rattle.registers.specs.Step.{one, found, left}
 use Rattle.symbol.specs.declared.Symbol.{Symbol}
 use Rattle.symbol.specs.Make.{symbolFrom}
-use Rattle.fixed.specs.declared.Pair.{Pair}
-use Rattle.fixed.specs.declared.Frontend.{Frontend}
+use Rattle.state.specs.declared.Pair.{Pair}
+use Rattle.state.specs.declared.Frontend.{Frontend}
 use Rattle.fixed.specs.Mix.{mixed, nextNco}
 use Rattle.fixed.specs.Line.{nextHead}
 use Rattle.fixed.specs.Filter.{filtered}

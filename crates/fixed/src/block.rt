@@ -1,13 +1,13 @@
 // A block: samples in, symbols out (document 01: 'A block').
 //
 // The line and the waiting errors are taken out of the state into arrays of numbers, lent to each sample in turn, and put back at the end.
-use crate::Pair;
-use crate::Position;
 use crate::line;
 use crate::sample;
 use params::Params;
 use registers::Pending;
 use registers::Registers;
+use state::Pair;
+use state::Position;
 use symbol::Symbol;
 ghost use mathlib.Core.Path.{_≡_};
 ghost use mathlib.Core.Bool.{cond};
@@ -15,31 +15,7 @@ ghost use Prim.Native.Nat.{_+_, _*_, _/_, _≤_};
 ghost use lib.ListN.{length};
 ghost use Rattle.params.specs.Judge.{sheetOf};
 ghost use Rattle.symbol.specs.Places.{putOf};
-ghost use Rattle.fixed.specs.Block.{goodState};
-ghost use Rattle.fixed.specs.Inside.{Laid, Packed, Queued, kept, outline, Begun, Runs};
-
-// 9: whether a block can go on from these registers and positions.
-pub(crate) fn is_good_state(p: Params, r: Registers, w: Position) -> bool
-    ensures { λ b. ⌜ b ≡ goodState p (outline r w) ⌝ }
-{
-    let end = (p.integrator_max as i64) * 65536;
-    let waiting = if r.symbols < 24 {
-        r.symbols as usize
-    } else {
-        24
-    };
-    w.head < p.taps as usize
-        && 0 <= r.t_acc
-        && r.t_acc < 0x400_0000
-        && 0 - end <= r.v
-        && r.v <= end
-        && p.period_min <= r.period
-        && r.period <= p.period_max
-        && r.gain_acc <= 0xff_ffff
-        && w.waiting == waiting
-        && w.oldest <= 23
-        && r.symbols <= w.samples
-}
+ghost use Rattle.fixed.specs.Inside.{Laid, Packed, Queued, kept, Begun, Runs};
 
 // ---- the state, taken apart and put together
 

@@ -1,5 +1,5 @@
 // The mixer: a sample is turned by the phase word, and the phase word goes on (document 01: step 1 of a sample's way).
-use crate::Pair;
+use state::Pair;
 ghost use mathlib.Core.Path.{_≡_};
 ghost use Prim.Native.Nat.{_^_, _≤_};
 ghost use lib.IntN.{pos, natAbs, _+ℤ_};

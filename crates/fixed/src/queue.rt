@@ -1,6 +1,6 @@
 // The waiting errors, a ring of 24 places: while a block runs, timing errors and gain errors are an array each.
-use crate::Position;
 use registers::Pending;
+use state::Position;
 ghost use mathlib.Core.Path.{_≡_};
 ghost use mathlib.Core.Bool.{cond};
 ghost use Prim.Native.Nat.{_+_, _%_, _≤_, _<_};
@@ -54,7 +54,7 @@ pub(crate) fn after_symbol(w: Position) -> Position
       samples = w .samples + 1;
     } ⌝ }
 {
-    if w.waiting == 24 {
+    if registers::is_due(w.waiting) {
         return Position {
             head: w.head,
             oldest: in_ring(w.oldest + 1),

@@ -1,11 +1,11 @@
 // One sample: it is mixed and joins the line, a symbol is made if one falls due, and the time goes on (document 01: a sample's way).
-use crate::Position;
 use crate::filter;
 use crate::line;
 use crate::mix;
 use crate::queue;
 use params::Params;
 use registers::Registers;
+use state::Position;
 use symbol::Output;
 use symbol::Symbol;
 ghost use mathlib.Core.Path.{_≡_};
@@ -18,7 +18,7 @@ ghost use Rattle.params.specs.Judge.{sheetOf};
 ghost use Rattle.registers.specs.Step.{one};
 ghost use Rattle.symbol.specs.Make.{symbolFrom};
 ghost use Rattle.tables.specs.Wheel.{wheelTable};
-ghost use Rattle.fixed.specs.declared.Pair.{Pair};
+ghost use Rattle.state.specs.declared.Pair.{Pair};
 ghost use Rattle.fixed.specs.Filter.{filtered};
 ghost use Rattle.fixed.specs.Inside.{Laid, kept, Tuned, Ready, MakesSymbol, Pushes};
 
@@ -31,14 +31,6 @@ pub(crate) struct Pushed {
 }
 
 // ---- step 3 with a symbol
-
-// The gain, the upper 16 of the accumulator's 24 bits.
-pub(crate) fn gain_of(acc: u32) -> u16
-    requires { ⌜ acc ≤ 16777215 ⌝ }
-    ensures { λ r. ⌜ r ≡ acc / 256 ⌝ }
-{
-    (acc / 256) as u16
-}
 
 // The symbol of this gain and period over the line: only row `phase` of each bank goes to the filter.
 fn symbol_at(
@@ -65,7 +57,7 @@ fn symbol_at(
     let head = w.head;
     let end = head + taps;
     let s = filter::filter(&h[a..b], &g[a..b], &k[a..b], &i[head..end], &q[head..end]);
-    Symbol::make(p, gain_of(r.gain_acc), r.period, w.samples, phase as u8, s)
+    Symbol::make(p, r.gain(), r.period, w.samples, phase as u8, s)
 }
 
 // The registers step first: the symbol reports the gain and the period that they then have.
@@ -91,7 +83,7 @@ fn with_symbol(
 {
     let phase = (r.t_acc >> 18) as usize;
     let oldest = queue::oldest(&*e, &*err, w);
-    let stepped = r.after_symbol(p, w.waiting == 24, oldest);
+    let stepped = r.after_symbol(p, registers::is_due(w.waiting), oldest);
     let registers = stepped.registers;
     let symbol = symbol_at(p, h, g, k, i, q, registers, w, phase);
     queue::join(&mut *e, &mut *err, w, symbol.e, symbol.err);

@@ -1,8 +1,8 @@
 -- A symbol's step on the six registers, of any registers and any sheet: they change as one group, or are left as they are.
 -- (Document 01, 'A sample's way', a symbol: the six loop registers.)
-use Prim.Native.Nat.{_+_}
+use Prim.Native.Nat.{ℕ, _+_}
 use mathlib.Core.Bool.{Bool, true, false, cond, _&&_}
-use lib.Dec.{ltb}
+use lib.Dec.{eqb, ltb}
 use lib.IntN.{ℤ, pos, negℤ, _+ℤ_, _-ℤ_}
 use lib.Signed.{leZ, ltZ}
 use Rattle.params.specs.declared.Params.{Params}
@@ -11,6 +11,14 @@ use Rattle.registers.specs.declared.Pending.{Pending}
 use Rattle.registers.specs.declared.Registers.{Registers}
 use Rattle.registers.specs.declared.AfterSymbol.{AfterSymbol}
 use Rattle.registers.specs.Correct.{integratorEnd, corrected}
+
+-- The errors of a symbol are applied at the symbol that comes this many later.
+abbrev pub loopDelay : ℕ
+loopDelay = 24
+
+-- So errors are due where as many wait.
+abbrev pub isDue : ℕ → Bool
+isDue waiting = eqb waiting loopDelay
 
 -- One sample, in 2^24ths.
 abbrev pub one : ℤ

@@ -1,15 +1,30 @@
 // A symbol's step on the six registers: they change as one group, whatever they hold (document 01: the six loop registers).
 use crate::AfterSymbol;
+use crate::LOOP_DELAY;
 use crate::Pending;
 use crate::Registers;
 use crate::correct;
 use params::Params;
 ghost use mathlib.Core.Path.{_≡_};
-ghost use Prim.Native.Nat.{_^_, _≤_, _<_};
+ghost use Prim.Native.Nat.{_^_, _/_, _%_, _≤_, _<_};
 ghost use lib.IntN.{natAbs};
-ghost use Rattle.registers.specs.Step.{canMakeSymbol, found, left, afterSymbol};
+ghost use Rattle.registers.specs.Step.{isDue, canMakeSymbol, found, left, afterSymbol};
+
+// Whether errors are due where so many wait.
+pub fn is_due(waiting: usize) -> bool
+    ensures { λ b. ⌜ b ≡ isDue waiting ⌝ }
+{
+    waiting == LOOP_DELAY
+}
 
 impl Registers {
+    // The gain, the upper 16 of the accumulator's 24 bits.
+    pub fn gain(self) -> u16
+        ensures { λ r. ⌜ r ≡ self .«gain_acc» / 256 % 65536 ⌝ }
+    {
+        (self.gain_acc / 256 % 65536) as u16
+    }
+
     // Whether a symbol can be made: one falls due, v stands within its ends, and the count has room.
     fn can_make_symbol(self, p: Params) -> bool
         ensures { λ b. ⌜ b ≡ canMakeSymbol p self ⌝ }

@@ -12,14 +12,15 @@ use borrow.Author.Tests.{eqb-true}
 use Rattle.params.specs.Refusal.{Refusal, refusal}
 use Rattle.params.specs.Judge.{Sheet, unless, firstOf, faults}
 use Rattle.params.proofs.Accepted.{Accepted, judged-none, no-faults}
-use Rattle.fixed.specs.declared.Frontend.{Frontend}
+use Rattle.state.specs.declared.Frontend.{Frontend}
 use Rattle.symbol.specs.declared.Symbol.{Symbol}
-use Rattle.fixed.specs.Start.{startOf}
-use Rattle.fixed.specs.Queue.{loopDelay}
-use Rattle.fixed.specs.Block.{goodState, stateFaults, sizeFaults, blockFaults, accepted, blockOf}
+use Rattle.state.specs.Start.{startOf}
+use Rattle.registers.specs.Step.{loopDelay}
+use Rattle.state.specs.Check.{goodState, stateFaults, sizeFaults, blockFaults}
+use Rattle.fixed.specs.Block.{accepted, blockOf}
 use Rattle.timing.specs.Lists.{Call, answer, endState}
 use Rattle.timing.specs.Timing.{StatesGoOn}
-use Rattle.fixed.proofs.States.{Going, good}
+use Rattle.state.proofs.Going.{Going, good}
 use Rattle.timing.proofs.Invariant.{Inv, loopAt-within}
 use Rattle.timing.proofs.Timing.{ends-inv}
 
@@ -36,12 +37,12 @@ going s a f S i = record {
 }
 
 -- the number of an answer is that of its first fault
-numbered : (s : Sheet) (f : Frontend) (c : Call) → answer s f c .refused .number ≡ firstOf (blockFaults s f (c .values) (c .out)) .number
+numbered : (s : Sheet) (f : Frontend) (c : Call) → answer s f c .refused .number ≡ firstOf (blockFaults s f (length (c .values)) (length (c .out))) .number
 unfolding blockOf accepted
 numbered s f c = go (eqb n 0) refl
   where
     n : ℕ
-    n = firstOf (blockFaults s f (c .values) (c .out)) .number
+    n = firstOf (blockFaults s f (length (c .values)) (length (c .out))) .number
 
     go : (b : Bool) → eqb n 0 ≡ b → answer s f c .refused .number ≡ n
     go true e = rw e (sym (eqb-true n 0 e))

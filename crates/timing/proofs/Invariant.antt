@@ -15,17 +15,17 @@ use borrow.Author.Tests.{ltb-true, ltb-false, eqb-true, eqb-false}
 use Rattle.params.specs.declared.Params.{Params}
 use Rattle.params.specs.Judge.{Sheet}
 use Rattle.params.proofs.Accepted.{Accepted}
-use Rattle.fixed.specs.declared.Pair.{Pair}
+use Rattle.state.specs.declared.Pair.{Pair}
 use Rattle.registers.specs.declared.Pending.{Pending}
 use Rattle.registers.specs.declared.Registers.{Registers}
-use Rattle.fixed.specs.declared.Frontend.{Frontend}
+use Rattle.state.specs.declared.Frontend.{Frontend}
 use Rattle.symbol.specs.declared.Symbol.{Symbol}
-use Rattle.fixed.specs.Start.{noPending, fresh}
-use Rattle.fixed.specs.Queue.{loopDelay}
+use Rattle.state.specs.Start.{noPending, fresh}
+use Rattle.registers.specs.Step.{loopDelay, one, found, left}
 use Rattle.fixed.specs.Sample.{due, symbolOf, joined, withSymbol, withoutSymbol, falls, next, madeBy, after, emitted}
 use Rattle.symbol.specs.Make.{symbolFrom}
-use Rattle.registers.specs.Step.{one, found, left}
-use Rattle.fixed.proofs.States.{time, minus-nat, head-below, due-time, due-symbols}
+use Rattle.state.proofs.Going.{time, minus-nat}
+use Rattle.fixed.proofs.States.{head-below, due-time, due-symbols}
 use Rattle.registers.proofs.Loops.{Loop, loopOf, corrected-moves, Within}
 use Rattle.timing.proofs.Errors.{total, total-append, errors, errorsOf, errors-append, length-errors, movedBy, movedBy-snoc, freshLoop, loop-within}
 

@@ -15,13 +15,13 @@ use lib.Signed.{_≤ℤ_}
 use Rattle.params.specs.Refusal.{Refusal, nothing}
 use Rattle.params.specs.Judge.{Sheet}
 use Rattle.params.proofs.Accepted.{Accepted, judged-none, no-faults}
-use Rattle.fixed.specs.declared.Pair.{Pair}
-use Rattle.fixed.specs.declared.Frontend.{Frontend}
+use Rattle.state.specs.declared.Pair.{Pair}
+use Rattle.state.specs.declared.Frontend.{Frontend}
 use Rattle.symbol.specs.declared.Output.{Output}
 use Rattle.symbol.specs.declared.Symbol.{Symbol}
-use Rattle.fixed.specs.Start.{noPair, atRest, fresh, startOf}
+use Rattle.state.specs.Start.{noPair, atRest, fresh, startOf}
 use Rattle.fixed.specs.Filter.{sumTo}
-use Rattle.fixed.specs.Queue.{loopDelay}
+use Rattle.registers.specs.Step.{loopDelay}
 use Rattle.symbol.specs.Places.{placesOf}
 use Rattle.fixed.specs.Sample.{after, emitted}
 use Rattle.fixed.specs.Block.{flattened}
@@ -31,7 +31,7 @@ use Rattle.fixed.proofs.Runs.{emitted-append, length-flattened, place-flattened
 use Rattle.timing.proofs.Calls.{calls-state, calls-written, calls-counted}
 use Rattle.registers.proofs.Loops.{Loop}
 use Rattle.timing.proofs.Errors.{total, total-append, total-suc, errors, errors-take, movedBy, freshLoop}
-use Rattle.fixed.proofs.States.{time}
+use Rattle.state.proofs.Going.{time}
 use Rattle.timing.proofs.Invariant.{loopAt, Inv, Placed, each-at, fresh-inv, loopAt-within, run-inv, run-placed}
 
 abbrev noOutput : Output

@@ -7,9 +7,9 @@ use lib.Dec.{eqb}
 use lib.ListN.{take}
 use lib.IntN.{ℤ}
 use Rattle.params.specs.Judge.{Sheet}
-use Rattle.fixed.specs.declared.Pair.{Pair}
-use Rattle.fixed.specs.declared.Frontend.{Frontend}
-use Rattle.fixed.specs.Start.{startOf}
+use Rattle.state.specs.declared.Pair.{Pair}
+use Rattle.state.specs.declared.Frontend.{Frontend}
+use Rattle.state.specs.Start.{startOf}
 use Rattle.fixed.specs.Block.{Block, pairsOf, blockOf}
 
 -- A call's sample values and its output buffer: any of either.

@@ -10,8 +10,8 @@ use lib.IntN.{ℤ, pos, _+ℤ_, _*ℤ_}
 use lib.Signed.{shrZ, _≤ℤ_}
 use Rattle.params.specs.Refusal.{nothing}
 use Rattle.params.specs.Judge.{Sheet}
-use Rattle.fixed.specs.declared.Pair.{Pair}
-use Rattle.fixed.specs.Start.{noPair, startOf}
+use Rattle.state.specs.declared.Pair.{Pair}
+use Rattle.state.specs.Start.{noPair, startOf}
 use Rattle.fixed.specs.Filter.{sumTo}
 use Rattle.timing.specs.Lists.{Call, answer, endState, samplesOf, placesWritten, symbolCount}
 

@@ -11,8 +11,8 @@ use mir.Syntax.{w32}
 use borrow.Author.Needs.{needs}
 use borrow.Author.Tests.{ltb-true, ltb-false}
 use Rattle.arith.proofs.Bits.{held}
-use Rattle.fixed.specs.declared.Pair.{Pair}
-use Rattle.fixed.specs.Start.{noPair}
+use Rattle.state.specs.declared.Pair.{Pair}
+use Rattle.state.specs.Start.{noPair}
 use Rattle.fixed.specs.Inside.{lowered}
 use Rattle.fixed.proofs.Filling.{Filled, filled-none, filled-next}
 use Rattle.fixed.proofs.block.pack_line.Statement.{statement}

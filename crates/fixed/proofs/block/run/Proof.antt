@@ -10,8 +10,8 @@ use mir.Val.{toZ, ofZ}
 use borrow.Author.Needs.{needs}
 use Rattle.arith.proofs.Bits.{held}
 use Rattle.params.specs.Judge.{Sheet, sheetOf}
-use Rattle.fixed.specs.declared.Pair.{Pair}
-use Rattle.fixed.specs.Start.{noPair}
+use Rattle.state.specs.declared.Pair.{Pair}
+use Rattle.state.specs.Start.{noPair}
 use Rattle.fixed.specs.Block.{pairsOf}
 use Rattle.fixed.specs.Inside.{Kept, kept}
 use Rattle.fixed.proofs.Turns.{Turned, Turn, pairs-at, turned-none, turned-next, turned-ready, turned-all}

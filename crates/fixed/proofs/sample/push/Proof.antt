@@ -17,16 +17,16 @@ use Rattle.params.specs.Judge.{Sheet, sheetOf}
 use Rattle.registers.specs.declared.Registers.{Registers}
 use Rattle.registers.specs.Step.{one}
 use Rattle.registers.proofs.Loops.{loopOf}
-use Rattle.fixed.specs.declared.Pair.{Pair}
-use Rattle.fixed.specs.declared.Position.{Position}
-use Rattle.fixed.specs.declared.Frontend.{Frontend}
+use Rattle.state.specs.declared.Pair.{Pair}
+use Rattle.state.specs.declared.Position.{Position}
+use Rattle.state.specs.declared.Frontend.{Frontend}
 use Rattle.fixed.specs.Mix.{mixed, nextNco}
 use Rattle.fixed.specs.Line.{nextHead}
 use Rattle.fixed.specs.Sample.{joined, withoutSymbol, falls}
-use Rattle.fixed.specs.Inside.{lowered, outline, Kept, kept, Stands, Ready, GoesOn}
-use Rattle.fixed.proofs.States.{Going}
-use Rattle.fixed.proofs.Kept.{v-small, keptJoined, keptWithout, accepted, ready-going, head-fits, ready-joined, stands-joined}
-use Rattle.fixed.proofs.Kept.{without-symbol-on, stands-without, next-with, next-without, made-with, made-without}
+use Rattle.fixed.specs.Inside.{lowered, Kept, kept, Stands, Ready, GoesOn}
+use Rattle.state.specs.Check.{outline}
+use Rattle.state.proofs.Going.{Going}
+use Rattle.fixed.proofs.Kept.{v-small, keptJoined, keptWithout, accepted, ready-going, head-fits, ready-joined, stands-joined, without-symbol-on, stands-without, next-with, next-without, made-with, made-without}
 use Rattle.fixed.proofs.sample.push.Statement.{statement}
 use Rattle.fixed.proofs.sample.push.Tie as tie
 

@@ -1,6 +1,6 @@
 -- `fixed::sample::symbol_at` meets its contract: the parts of the banks that go to the filter are the phase's rows of an accepted sheet, as the filter takes them.
 -- Those of the line are the windows over which a row's sums are its sums over the line, newest first (Windows).
-use Prim.Native.Nat.{ℕ, _+_, _*_, _/_, _≤_}
+use Prim.Native.Nat.{ℕ, _+_, _*_, _/_, _%_, _≤_}
 use mathlib.Core.Path.{_≡_, refl, ap, _∙_}
 use mathlib.Core.Bool.{true}
 use mathlib.Core.List.{List, [], _∷_}
@@ -12,7 +12,7 @@ use Rattle.params.specs.declared.Params.{Params}
 use Rattle.params.specs.Judge.{sheetOf, rowOf, rowsFaults, rowsOutside}
 use Rattle.params.proofs.Accepted.{Accepted, no-faults, judged-none}
 use Rattle.params.proofs.RowsOf.{row-inside}
-use Rattle.fixed.specs.declared.Pair.{Pair}
+use Rattle.state.specs.declared.Pair.{Pair}
 use Rattle.symbol.specs.declared.Sums.{Sums}
 use Rattle.symbol.specs.declared.Symbol.{Symbol}
 use Rattle.fixed.specs.Filter.{sumsOf, filtered}
@@ -167,8 +167,8 @@ filter-requires c κs =
     let b = accepted s .banks in
     (detector s 0 (h s) (l .long-h) (b .rows-h) (b .outside-h), (detector s 1 (g s) (l .long-g) (b .rows-g) (b .outside-g), output s 2 (k s) (l .long-k) (b .rows-k)))
 
-gain-of-requires : tie.Need-gain-of-requires
-gain-of-requires c κs = search needs
+gain-requires : tie.Need-gain-requires
+gain-requires c κs = search needs
 
 cast-make : tie.Need-cast-make
 cast-make c = search needs
@@ -184,8 +184,9 @@ returns c =
     let a = s .args in
     let gain : ℕ = a .r .«gain_acc» / 256 in
     let make : List Sums → Symbol = symbolFrom (a .p) gain (a .r .period) (a .w .samples) (a .phase) in
+    let small : a .r .«gain_acc» / 256 % 65536 ≡ gain = omega (arith, s .pre .0 .gain) in
     let made : c .make .result ≡ make (f .filter .result) =
-    c .make .ensures ∙ ap (λ (x : ℕ). symbolFrom (a .p) x (a .r .period) (a .w .samples) (a .phase) (f .filter .result)) (n .gain-of .ensures) in
+    c .make .ensures ∙ ap (λ (x : ℕ). symbolFrom (a .p) x (a .r .period) (a .w .samples) (a .phase) (f .filter .result)) (n .gain .ensures ∙ small) in
     let summed : f .filter .result ≡ over s (h s) ∷ over s (g s) ∷ over s (k s) ∷ [] = f .filter .ensures in (
       ap (λ (y : Symbol). y .sample) made ∙ sample-is (a .p) gain (a .r .period) (a .w .samples) (a .phase) (f .filter .result),
       λ l laid. made ∙ ap make (summed ∙ sums-are s l laid),
@@ -220,7 +221,7 @@ symbol-at-spec =
     part-filter-start-5
     part-filter-end-5
     filter-requires
-    gain-of-requires
+    gain-requires
     cast-make
     make-requires
     returns)

@@ -2,9 +2,9 @@
 -- What it does to registers, positions and queue is what the definition does to the state that they stand for (Kept).
 use Prim.Native.Nat.{ℕ, _+_, _/_, _%_, _≤_, _<_}
 use mathlib.Core.Path.{_≡_, refl, sym, ap, subst, _∙_}
-use mathlib.Core.Bool.{true}
+use mathlib.Core.Bool.{Bool, true}
 use native.Mathlib.Omega.{arith}
-use lib.Dec.{T, eqb}
+use lib.Dec.{T}
 use lib.ListN.{set}
 use lib.IntN.{ℤ, pos, natAbs}
 use lib.Signed.{nonNeg, ltZ, shrZ}
@@ -17,14 +17,15 @@ use Rattle.arith.proofs.Widths.{in64}
 use Rattle.params.specs.Judge.{Sheet, sheetOf}
 use Rattle.registers.specs.declared.Registers.{Registers}
 use Rattle.registers.specs.declared.AfterSymbol.{AfterSymbol}
-use Rattle.registers.specs.Step.{one, left, afterSymbol}
+use Rattle.registers.specs.Step.{isDue, one, left, afterSymbol}
 use Rattle.symbol.specs.Make.{symbolFrom}
-use Rattle.fixed.specs.declared.Position.{Position}
-use Rattle.fixed.specs.declared.Frontend.{Frontend}
+use Rattle.state.specs.declared.Position.{Position}
+use Rattle.state.specs.declared.Frontend.{Frontend}
 use Rattle.fixed.specs.Filter.{filtered}
 use Rattle.fixed.specs.Sample.{symbolOf, withSymbol}
-use Rattle.fixed.specs.Inside.{outline, Kept, kept, Stands, GoesOn, MakesSymbol}
-use Rattle.fixed.proofs.States.{Going}
+use Rattle.state.specs.Check.{outline}
+use Rattle.fixed.specs.Inside.{Kept, kept, Stands, GoesOn, MakesSymbol}
+use Rattle.state.proofs.Going.{Going}
 use Rattle.fixed.proofs.Kept.{dueIn, keptWith, ready-going, step-is, step-gain, with-symbol-on, stands-symbol, stands-with}
 use Rattle.fixed.proofs.sample.with_symbol.Statement.{statement}
 use Rattle.fixed.proofs.sample.with_symbol.Tie as tie
@@ -66,6 +67,9 @@ oldest-requires c κs =
     let b = c .before .before .before .before .before .before in
     ((b .pre .0 .begun .long-e, b .pre .0 .begun .long-err), omega (arith, going-at b .oldest))
 
+is-due-requires : tie.Need-is-due-requires
+is-due-requires c κs = search needs
+
 after-symbol-requires : tie.Need-after-symbol-requires
 after-symbol-requires c κs = search needs
 
@@ -78,7 +82,9 @@ module _ (c : tie.After-after-symbol) where
   stepped : c .after-symbol .result ≡ record { registers = left (dueIn (at .args .p) (x at)); made = true }
   stepped =
       let a = at .args in
-      c .after-symbol .ensures ∙ ap (afterSymbol (a .p) (a .r) (eqb (a .w .waiting) 24)) (c .before .before .oldest .ensures) ∙ step-is (at .pre .0) (at .pre .1)
+      let due = c .before in
+      c .after-symbol .ensures ∙ ap (λ (b : Bool). afterSymbol (a .p) (a .r) b (due .before .oldest .result)) (due .is-due .ensures)
+      ∙ ap (afterSymbol (a .p) (a .r) (isDue (a .w .waiting))) (due .before .oldest .ensures) ∙ step-is (at .pre .0) (at .pre .1)
 
   registers-are : c .after-symbol .result .registers ≡ left (dueIn (at .args .p) (x at))
   registers-are = ap (λ (z : AfterSymbol). z .registers) stepped
@@ -174,6 +180,7 @@ with-symbol-spec =
     (tie.spec
     cast-phase
     oldest-requires
+    is-due-requires
     after-symbol-requires
     symbol-at-requires
     join-requires
