@@ -5,3 +5,4 @@ pub mod Products
 pub mod Bits
 pub mod Rounding
 pub mod Modulus
+pub mod Both

@@ -12,7 +12,8 @@ use lib.Signed.{leZ, ltZ}
 use borrow.Author.Tests.{ltb-true, ltb-false, leb-true, eqb-true, eqb-false, lt-ltb, le-leb, eq-eqb}
 use Rattle.arith.proofs.Order.{eq-pn, minus-pn}
 use Rattle.params.specs.declared.Params.{Params}
-use Rattle.params.specs.Judge.{Sheet, within}
+use Rattle.arith.specs.Arith.{within}
+use Rattle.params.specs.Judge.{Sheet}
 use Rattle.params.proofs.Rows.{and-left, and-right}
 use Rattle.params.proofs.Accepted.{Accepted}
 use Rattle.fixed.specs.declared.Pair.{Pair}

@@ -9,7 +9,8 @@ use lib.IntN.{ℤ, pos, negℤ}
 use lib.Signed.{leZ, ltZ}
 use Rattle.params.specs.declared.Params.{Params}
 use Rattle.params.specs.Refusal.{Refusal, refusal, nothing, errorRefusal}
-use Rattle.params.specs.Judge.{Sheet, unless, firstOf, within, faults}
+use Rattle.arith.specs.Arith.{within}
+use Rattle.params.specs.Judge.{Sheet, unless, firstOf, faults}
 use Rattle.fixed.specs.declared.Pair.{Pair}
 use Rattle.fixed.specs.declared.Registers.{Registers}
 use Rattle.fixed.specs.declared.Frontend.{Frontend}

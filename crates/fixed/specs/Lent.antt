@@ -6,7 +6,7 @@ use lib.Dec.{ltb}
 use lib.IntN.{pos, negℤ, _+ℤ_, _-ℤ_}
 use lib.Signed.{leZ, ltZ}
 use Rattle.params.specs.declared.Params.{Params}
-use Rattle.params.specs.Judge.{within}
+use Rattle.arith.specs.Arith.{within}
 use Rattle.fixed.specs.declared.Pending.{Pending}
 use Rattle.fixed.specs.declared.Registers.{Registers}
 use Rattle.fixed.specs.declared.AfterSymbol.{AfterSymbol}

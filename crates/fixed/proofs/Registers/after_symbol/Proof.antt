@@ -13,7 +13,7 @@ use borrow.Author.Needs.{needs}
 use borrow.Author.Tests.{not-true, not-false, ltb-true}
 use Rattle.arith.proofs.Order.{lt-pn, le-pn}
 use Rattle.params.specs.declared.Params.{Params}
-use Rattle.params.specs.Judge.{within}
+use Rattle.arith.specs.Arith.{within}
 use Rattle.params.proofs.Rows.{and-left, and-right}
 use Rattle.fixed.specs.declared.Pending.{Pending}
 use Rattle.fixed.specs.declared.Registers.{Registers}

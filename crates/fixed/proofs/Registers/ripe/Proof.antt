@@ -8,7 +8,7 @@ use lib.Signed.{leZ, ltZ}
 use mir.Syntax.{w32, w64}
 use mir.Val.{SFits}
 use Rattle.arith.proofs.Bits.{held, widens, widened}
-use Rattle.params.specs.Judge.{within}
+use Rattle.arith.specs.Arith.{within}
 use Rattle.fixed.specs.Loop.{integratorEnd}
 use Rattle.fixed.specs.Sample.{one}
 use Rattle.fixed.specs.Lent.{ripe}

@@ -1,4 +1,4 @@
--- Places: signed numbers of 64 bits, in which sheets, states and answers cross to C, and which of them a field takes.
+-- The kinds of fields, by number, and which numbers each takes of those that a place can hold: the signed ones of 64 bits.
 -- (Ours: document 01 says how symbols fill places, and leaves open how sheets and states do.)
 use Prim.Native.Nat.{ℕ, _<_}
 use mathlib.Core.Path.{_≡_}
@@ -7,7 +7,7 @@ use mathlib.Core.List.{List, [], _∷_}
 use lib.Dec.{eqb}
 use lib.ListN.{length, getD}
 use lib.IntN.{ℤ, pos, negsuc}
-use Rattle.params.specs.Judge.{within}
+use Rattle.arith.specs.Arith.{within}
 
 -- The number at a place; 0 where there is none.
 abbrev pub at : List ℤ → ℕ → ℤ
@@ -37,15 +37,15 @@ abbrev pub count : ℕ
 count = 5
 
 -- The least number of a kind.
-unfoldable pub least : ℕ → ℤ
-least kind =
+unfoldable pub leastOf : ℕ → ℤ
+leastOf kind =
     cond (eqb kind i16) (negsuc 32767)
     (cond (eqb kind i32) (negsuc 2147483647)
     (cond (eqb kind i64) (negsuc 9223372036854775807) (pos 0)))
 
 -- The greatest.
-unfoldable pub most : ℕ → ℤ
-most kind =
+unfoldable pub mostOf : ℕ → ℤ
+mostOf kind =
     cond (eqb kind u8) (pos 255)
     (cond (eqb kind u32) (pos 4294967295)
     (cond (eqb kind i16) (pos 32767)
@@ -53,7 +53,7 @@ most kind =
 
 -- A number is one of its kind.
 unfoldable pub isKind : ℕ → ℤ → Bool
-isKind kind z = within (least kind) (most kind) z
+isKind kind z = within (leastOf kind) (mostOf kind) z
 
 -- Places, one kind after the other: there is a place for each kind, and its number is one of it.
 unfoldable pub areKinds : List ℕ → List ℤ → Bool

@@ -1,4 +1,4 @@
--- `archive::places::are_kinds` meets its contract: after n turns the first n places have their kinds, so the others decide.
+-- `kinds::are_kinds` meets its contract: after n turns the first n places have their kinds, so the others decide.
 -- A place without its kind ends the search, and so does the last of the kinds.
 use Prim.Native.Nat.{ℕ, _+_, _-_, _≤_}
 use mathlib.Core.Path.{_≡_, refl, sym, ap, _∙_}
@@ -10,10 +10,10 @@ use mir.Syntax.{w64}
 use borrow.Author.Needs.{needs}
 use borrow.Author.Tests.{not-true, not-false}
 use Rattle.arith.proofs.Bits.{held}
-use Rattle.archive.specs.Places.{at, areKinds}
-use Rattle.archive.proofs.OfKind.{too-few, next-kind}
-use Rattle.archive.proofs.places.are_kinds.Statement.{statement}
-use Rattle.archive.proofs.places.are_kinds.Tie as tie
+use Rattle.kinds.specs.Kinds.{at, areKinds}
+use Rattle.kinds.proofs.OfKind.{too-few, next-kind}
+use Rattle.kinds.proofs.are_kinds.Statement.{statement}
+use Rattle.kinds.proofs.are_kinds.Tie as tie
 
 abbrev Inv-loop : tie.InvT-loop
 Inv-loop kinds places n₀ n = (n ≤ length kinds) × (areKinds kinds places ≡ areKinds (drop n kinds) (drop n places))

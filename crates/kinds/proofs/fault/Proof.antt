@@ -1,10 +1,10 @@
--- `archive::places::fault` meets its contract: it asks for the number of places, then for their kinds, as the definition does.
+-- `kinds::fault` meets its contract: it asks for the number of places, then for their kinds, as the definition does.
 use mathlib.Core.Path.{refl, sym, _∙_}
 use borrow.Author.Needs.{needs}
 use borrow.Author.Tests.{eq-eqb, ne-eqb, not-true, not-false}
-use Rattle.archive.specs.Places.{placesNumber}
-use Rattle.archive.proofs.places.fault.Statement.{statement}
-use Rattle.archive.proofs.places.fault.Tie as tie
+use Rattle.kinds.specs.Kinds.{placesNumber}
+use Rattle.kinds.proofs.fault.Statement.{statement}
+use Rattle.kinds.proofs.fault.Tie as tie
 
 returns : tie.Need-returns
 unfolding placesNumber
