@@ -1,5 +1,4 @@
--- How answers cross: the first number that is not 0, places that are written only where nothing is refused, numbers below zero, and what a block's answer
--- leaves that fits places again.
+-- How answers cross: the first number that is not 0, numbers below zero, and what starting and a block leave that fits places again.
 use Prim.Native.Nat.{ℕ, _^_, _≤_, _<_}
 use mathlib.Core.Path.{_≡_, refl, sym, _∙_}
 use mathlib.Core.Bool.{Bool, true, false}
@@ -25,19 +24,21 @@ use Rattle.fixed.proofs.States.{Going, going, run-going}
 use Rattle.fixed.proofs.Runs.{run-samples}
 use Rattle.fixed.proofs.Turns.{pairs-long}
 use Rattle.fixed.proofs.Verdicts.{block-numbered, Faultless, faultless}
-use Rattle.archive.specs.State.{stateFits, Placed}
-use Rattle.archive.specs.Calls.{first, Answer, answered, stateNumber}
+use Rattle.places.specs.Answer.{answered}
+use Rattle.places.specs.State.{stateFits, hasPlaces}
+use Rattle.places.proofs.Placed.{Placed, has-places}
+use Rattle.calls.specs.Calls.{firstNumber, stateNumber}
 
 -- ---- numbers of refusals
 
-pub first-is : (a b : ℕ) {n : ℕ} → (n ≡ 0 → ⊥) → n ≡ a → n ≡ first a b
+pub first-is : (a b : ℕ) {n : ℕ} → (n ≡ 0 → ⊥) → n ≡ a → n ≡ firstNumber a b
 first-is a b h e = rw (ne-eqb a 0 (λ z. h (e ∙ z))) e
 
-pub then-is : (a b : ℕ) {n : ℕ} → a ≡ 0 → n ≡ b → n ≡ first a b
+pub then-is : (a b : ℕ) {n : ℕ} → a ≡ 0 → n ≡ b → n ≡ firstNumber a b
 then-is a b z e = rw (eq-eqb a 0 z) e
 
 -- 9 is not 0, and neither is what comes before it
-nine : (a : ℕ) {n : ℕ} → n ≡ first a 9 → n ≡ 0 → ⊥
+nine : (a : ℕ) {n : ℕ} → n ≡ firstNumber a 9 → n ≡ 0 → ⊥
 nine a is z = go (eqb a 0) refl
   where
     go : (b : Bool) → eqb a 0 ≡ b → ⊥
@@ -54,17 +55,14 @@ pub record NoState (s : Sheet) (state : List ℤ) (n : ℕ) : Type 0 where
   pub is : n ≡ stateNumber s state
   pub some : n ≡ 0 → ⊥
 
-pub no-state : (s : Sheet) (state : List ℤ) {n : ℕ} → stateFits state ≡ false → n ≡ first (judged s .number) 9 → NoState s state n
+pub no-state : (s : Sheet) (state : List ℤ) {n : ℕ} → stateFits state ≡ false → n ≡ firstNumber (judged s .number) 9 → NoState s state n
 unfolding stateNumber
 no-state s state e is = record { is = rw e is; some = nine (judged s .number) is }
 
--- ---- places that are lent for an answer
+-- ---- what comes behind numbers that refuse nothing
 
-pub refuses : (number : ℕ) (written places : List ℤ) {n : ℕ} → (n ≡ 0 → ⊥) → n ≡ number → _≡_ {A = Answer} (record { number = n; places = places }) (answered number written places)
-refuses number written places h e = rw (ne-eqb number 0 (λ z. h (e ∙ z))) (λ i. record { number = e i; places = places })
-
-pub writes : (number : ℕ) (written places : List ℤ) {l : List ℤ} → 0 ≡ number → l ≡ written → _≡_ {A = Answer} (record { number = 0; places = l }) (answered number written places)
-writes number written places z e = rw (eq-eqb number 0 (sym z)) (λ i. record { number = z i; places = e i })
+pub then-answer : (a b : ℕ) (written places : List ℤ) → a ≡ 0 → answered (firstNumber a b) written places ≡ answered b written places
+then-answer a b written places z = rw (eq-eqb a 0 z) refl
 
 -- ---- a number below zero
 
@@ -79,9 +77,9 @@ minus-read n f = toZ-ofZ (minus-fits n f) ∙ minus-is n f
 
 -- ---- a state that starting gives has places
 
-pub started-placed : (s : Sheet) → Placed (startOf s .state)
+pub started-placed : (s : Sheet) → hasPlaces (startOf s .state) ≡ true
 unfolding startOf fresh
-started-placed s = go (eqb (judged s .number) 0) refl
+started-placed s = has-places (startOf s .state) (go (eqb (judged s .number) 0) refl)
   where
     go : (b : Bool) → eqb (judged s .number) 0 ≡ b → Placed (startOf s .state)
     go true e = rw e (record { symbols = omega arith; head = omega arith; oldest = omega arith; waiting = omega arith; samples = omega arith })
@@ -105,7 +103,7 @@ few s f (x ∷ xs) = omega (arith, length-append (madeBy s f x) (emitted s (next
 
 -- what a block without a refusal leaves
 pub record Left (b : Block) : Type 0 where
-  pub placed : Placed (b .state)
+  pub placed : hasPlaces (b .state) ≡ true
   pub counted : b .count ≤ 9223372036854775807
 
 module _ (s : Sheet) (f : Frontend) (values out : List ℤ) where
@@ -139,12 +137,12 @@ module _ (s : Sheet) (f : Frontend) (values out : List ℤ) where
       let samples : after s f xs .samples ≤ 9223372036854775807 = omega (arith, run-samples s f xs, pairs-long values, g .sizes .few) in
       rw (ran h)
       (record {
-        placed = record {
+        placed = has-places (after s f xs) (record {
           symbols = omega (arith, to .few);
           head = omega (arith, to .head, g .sheet .lengths .good .most);
           oldest = omega (arith, to .oldest);
           waiting = omega (arith, to .waiting);
           samples = samples;
-        };
+        });
         counted = omega (arith, few s f xs, pairs-long values, g .sizes .few);
       })

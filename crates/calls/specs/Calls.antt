@@ -1,5 +1,6 @@
--- What each call of the C interface answers, for any places, banks and buffers. The answers are those of judging, starting, the block, reading, the offset, float samples
--- and a design with its sheet; ours is only how they cross: refusals by number alone, sheets and states as places, and no buffer touched by a call that is refused.
+-- What each call of the C interface answers, for any places, banks and buffers. The answers are those of judging, starting, the block, reading, the offset,
+-- float samples and a design with its sheet; ours is only how they cross: refusals by number alone, sheets and states as places, and no buffer touched by a
+-- call that is refused.
 -- (Document 01: 'The sheet', 'A sample's way', 'A block', 'Around the path'.)
 use Prim.Native.Nat.{ℕ, _%_}
 use mathlib.Core.Bool.{cond}
@@ -16,40 +17,32 @@ use Rattle.design.specs.Refusal.{Answer as Designed, accepted, refused}
 use Rattle.design.specs.Design.{sheetOfDesign}
 use Rattle.fixed.specs.Start.{Start, startOf}
 use Rattle.fixed.specs.Block.{Block, blockOf, Read, readOf}
-use Rattle.archive.specs.Sheet.{sheetNumber, paramsOf, sheetNumbers}
-use Rattle.archive.specs.Rates.{designNumber, designAt, gainsAt}
-use Rattle.archive.specs.State.{stateFits, stateOf, numbersOf}
+use Rattle.places.specs.Answer.{Answer, answered}
+use Rattle.places.specs.Sheet.{sheetNumber, paramsAt, sheetNumbers}
+use Rattle.places.specs.Rates.{designNumber, designAt, gainsAt}
+use Rattle.places.specs.State.{stateFits, stateOf, numbersOf}
 
 -- The first of two numbers of refusals, 0 standing for none.
-abbrev pub first : ℕ → ℕ → ℕ
-first a b = cond (eqb a 0) b a
+abbrev pub firstNumber : ℕ → ℕ → ℕ
+firstNumber a b = cond (eqb a 0) b a
 
 -- The sheet that 17 places and the banks say.
 abbrev pub sheetAt : List ℤ → List ℤ → List ℤ → List ℤ → Sheet
-sheetAt l h g k = sheetOf (paramsOf l) h g k
+sheetAt l h g k = sheetOf (paramsAt l) h g k
 
 -- Judging: 18 and 19, then 1 to 8.
 unfoldable pub judgeNumber : List ℤ → List ℤ → List ℤ → List ℤ → ℕ
-judgeNumber l h g k = first (sheetNumber l) (judged (sheetAt l h g k) .number)
-
--- A call's number, and what it leaves in the places that were lent to it.
-pub record Answer : Type 0 where
-  pub number : ℕ
-  pub places : List ℤ
-
--- The places are written where nothing is refused, and stay as they were where something is.
-abbrev pub answered : ℕ → List ℤ → List ℤ → Answer
-answered number written places = record { number = number; places = cond (eqb number 0) written places }
+judgeNumber l h g k = firstNumber (sheetNumber l) (judged (sheetAt l h g k) .number)
 
 -- Starting: 18 and 19, 1 to 8, then 9 where there are not 186 places for the state.
 unfoldable pub startAnswer : List ℤ → List ℤ → List ℤ → List ℤ → List ℤ → Answer
 startAnswer l h g k state =
     let a : Start = startOf (sheetAt l h g k) in
-    answered (first (sheetNumber l) (first (a .refused .number) (cond (eqb (length state) 186) 0 9))) (numbersOf (a .state)) state
+    answered (firstNumber (sheetNumber l) (firstNumber (a .refused .number) (cond (eqb (length state) 186) 0 9))) (numbersOf (a .state)) state
 
 -- 9 of places that are those of no state, after 1 to 8.
 unfoldable pub stateNumber : Sheet → List ℤ → ℕ
-stateNumber s state = cond (stateFits state) 0 (first (judged s .number) 9)
+stateNumber s state = cond (stateFits state) 0 (firstNumber (judged s .number) 9)
 
 -- What a block answers, and what it leaves of the state's places and in the output.
 pub record BlockAnswer : Type 0 where
@@ -62,7 +55,7 @@ unfoldable pub blockAnswer : List ℤ → List ℤ → List ℤ → List ℤ →
 blockAnswer l h g k state values out =
     let s : Sheet = sheetAt l h g k in
     let b : Block = blockOf s (stateOf state) values out in
-    let n : ℕ = first (sheetNumber l) (first (stateNumber s state) (b .refused .number)) in
+    let n : ℕ = firstNumber (sheetNumber l) (firstNumber (stateNumber s state) (b .refused .number)) in
     cond (eqb n 0)
     (record { result = pos (b .count); state = numbersOf (b .state); output = b .output })
     (record { result = negℤ (pos n); state = state; output = out })
@@ -72,19 +65,20 @@ unfoldable pub readAnswer : List ℤ → List ℤ → List ℤ → List ℤ → 
 readAnswer l h g k state places =
     let s : Sheet = sheetAt l h g k in
     let a : Read = readOf s (stateOf state) in
-    answered (first (sheetNumber l) (first (stateNumber s state) (first (a .refused .number) (cond (leb 3 (length places)) 0 11))))
+    answered (firstNumber (sheetNumber l) (firstNumber (stateNumber s state) (firstNumber (a .refused .number) (cond (leb 3 (length places)) 0 11))))
     (pos (a .period) ∷ pos (a .gain) ∷ pos (a .symbols) ∷ drop 3 places) places
 
 -- The offset of a period: 18 and 19, 1 to 8, 13, then 11 where there is no place for it.
 unfoldable pub offsetAnswer : List ℤ → List ℤ → List ℤ → List ℤ → ℕ → List ℤ → Answer
 offsetAnswer l h g k period places =
     let a : Parts = offsetOf (sheetAt l h g k) period in
-    answered (first (sheetNumber l) (first (a .refused .number) (cond (leb 1 (length places)) 0 11))) (a .parts ∷ drop 1 places) places
+    answered (firstNumber (sheetNumber l) (firstNumber (a .refused .number) (cond (leb 1 (length places)) 0 11))) (a .parts ∷ drop 1 places) places
 
--- Float samples: 10 for an odd number of floats, then 11 where there are fewer places than floats. Each float is a component by itself, and goes to the place of its number.
+-- Float samples: 10 for an odd number of floats, then 11 where there are fewer places than floats. Each float is a component by itself, and goes to the
+-- place of its number.
 unfoldable pub sampleAnswer : List Float → List ℤ → Answer
 sampleAnswer floats places =
-    answered (first (cond (eqb (length floats % 2) 0) 0 10) (cond (leb (length floats) (length places)) 0 11))
+    answered (firstNumber (cond (eqb (length floats % 2) 0) 0 10) (cond (leb (length floats) (length places)) 0 11))
     (map componentOf floats ++ drop (length floats) places) places
 
 -- The number of a design's answer, 0 for a sheet.
@@ -101,4 +95,4 @@ writtenBy (refused r) places = places
 unfoldable pub designAnswer : List Float → List ℤ → List ℤ → List ℤ → List ℤ → List ℤ → Answer
 designAnswer rates fields h g k places =
     let a : Designed Params = sheetOfDesign (designAt rates fields) (gainsAt fields) h g k in
-    answered (first (designNumber rates fields) (first (refusedBy a) (cond (leb 17 (length places)) 0 11))) (writtenBy a places) places
+    answered (firstNumber (designNumber rates fields) (firstNumber (refusedBy a) (cond (leb 17 (length places)) 0 11))) (writtenBy a places) places

@@ -1,4 +1,4 @@
--- `archive::huntelm_design` meets its contract: it refuses in the definition's order, and writes the sheet where nothing is refused.
+-- `calls::design` meets its contract: it refuses in the definition's order, and writes the sheet where nothing is refused.
 use Prim.Native.Nat.{ℕ, _<_}
 use mathlib.Core.Path.{_≡_, refl, sym, ap, _∙_}
 use mathlib.Core.Bool.{cond}
@@ -8,7 +8,6 @@ use lib.Dec.{leb, lit<}
 use lib.ListN.{length}
 use lib.IntN.{ℤ}
 use borrow.Author.Needs.{needs}
-use borrow.Author.Tests.{le-leb, lt-leb}
 use Rattle.params.specs.declared.Params.{Params}
 use Rattle.params.proofs.Faults.{error-numbered}
 use Rattle.design.specs.declared.Design.{Design}
@@ -18,30 +17,30 @@ use Rattle.design.specs.declared.DesignError.the-variants.{SamplesPerSymbol, Ta
 use Rattle.design.specs.declared.SheetError.{SheetError}
 use Rattle.design.specs.Refusal.{Answer as Designed, accepted, sheetAnswer, designRefusal, sheetRefusal}
 use Rattle.design.specs.Design.{sheetOfDesign}
-use Rattle.archive.specs.Rates.{designNumber, designAt, gainsAt}
-use Rattle.archive.specs.Calls.{first, refusedBy, writtenBy, designAnswer}
-use Rattle.archive.proofs.Answers.{first-is, then-is, refuses, writes}
-use Rattle.archive.proofs.Readable.{readable-design}
-use Rattle.archive.proofs.huntelm_design.Statement.{statement}
-use Rattle.archive.proofs.huntelm_design.Tie as tie
+use Rattle.places.specs.Answer.{answered}
+use Rattle.places.specs.Sheet.{sheetWritten}
+use Rattle.places.specs.Rates.{designAt, gainsAt}
+use Rattle.places.proofs.Answered.{refuses}
+use Rattle.places.proofs.Read.{Designed as Readable, design-refused, design-read}
+use Rattle.calls.specs.Calls.{firstNumber, refusedBy, writtenBy, designAnswer}
+use Rattle.calls.proofs.Answers.{first-is, then-is, then-answer}
+use Rattle.calls.proofs.design.Statement.{statement}
+use Rattle.calls.proofs.design.Tie as tie
 
 -- ---- the places
 
-fault-requires : tie.Need-fault-requires
-fault-requires c κs = search needs
+read-design-requires : tie.Need-read-design-requires
+read-design-requires c κs = search needs
 
-returns : tie.Need-returns
-unfolding designAnswer
-returns c = refuses _ _ _ (c .if1 .taken) (first-is _ _ (c .if1 .taken) (c .before .fault .ensures))
+enum-known-number : tie.Need-enum-known-number
+enum-known-number c = search needs
 
-readable : (c : tie.Else1) → let a = c .before .before .before .args in designNumber (a .rates .now) (a .fields .now) ≡ 0
-readable c = sym (c .before .fault .ensures) ∙ c .if1 .left
+enum-known-design : tie.Need-enum-known-design
+enum-known-design c = search needs
 
-design-of-requires : tie.Need-design-of-requires
-design-of-requires c κs = search needs
-
-gains-of-requires : tie.Need-gains-of-requires
-gains-of-requires c κs = readable-design _ _ (readable (c .before)) .kinds
+readable : (c : tie.After-design)
+    → let a = c .before .before .before .before .args in Readable (a .rates .now) (a .fields .now) (c .design .given .0 .0) (c .design .given .0 .1 .0)
+readable c = design-read _ _ (sym (c .before .before .read-design .ensures) ∙ c .design .given .1)
 
 params-requires : tie.Need-params-requires
 params-requires c κs = search needs
@@ -59,14 +58,10 @@ module _ (c : tie.After-params) where
   told : sheetAnswer (c .params .result) ≡ answer
   told =
       let a = start .args in
-      let designed = c .before .before in
-      let of-design : Design → Designed Params = λ d. sheetOfDesign d (c .before .gains-of .result) (a .h .now) (a .g .now) (a .k .now) in
+      let arm = c .before .before in
+      let of-design : Design → Designed Params = λ d. sheetOfDesign d (arm .design .given .0 .1 .0) (a .h .now) (a .g .now) (a .k .now) in
       let of-gains : Gains → Designed Params = λ s. sheetOfDesign (designAt (a .rates .now) (a .fields .now)) s (a .h .now) (a .g .now) (a .k .now) in
-      c .params .ensures ∙ ap of-design (designed .design-of .ensures) ∙ ap of-gains (c .before .gains-of .ensures)
-
-  -- what comes before its number
-  ordered : (rest : ℕ) {n : ℕ} → n ≡ rest → let a = start .args in n ≡ first (designNumber (a .rates .now) (a .fields .now)) rest
-  ordered rest e = then-is _ _ (readable (c .before .before .before)) e
+      c .params .ensures ∙ ap of-design (readable arm .is) ∙ ap of-gains (readable arm .with)
 
 -- a refusal has a number
 design-numbered : (e : DesignError) → 0 < designRefusal e .number
@@ -85,73 +80,65 @@ enum-known-verdict c = search needs
 number-requires : tie.Need-number-requires
 number-requires c κs = search needs
 
-returns-3 : tie.Need-returns-3
-unfolding designAnswer
-returns-3 c =
-    let refused = c .before .before .verdict .given in
-    let designed = c .before .before .before .before in
-    let is : c .number .result ≡ refusedBy (answer designed) = c .number .ensures ∙ ap refusedBy (sym (ap sheetAnswer (refused .1)) ∙ told designed) in
-    let some : c .number .result ≡ 0 → ⊥ = λ z. omega (arith, sheet-numbered (refused .0 .0), c .number .ensures) in
-    refuses _ _ _ some (ordered designed _ (first-is _ _ some is))
-
--- ---- the sheet
-
 enum-known-verdict-2 : tie.Need-enum-known-verdict-2
 enum-known-verdict-2 c = search needs
 
--- what it holds
-module _ (c : tie.After-verdict2) where
-  abbrev sheet : Params
-  sheet = c .verdict2 .given .0 .0
+write-sheet-requires : tie.Need-write-sheet-requires
+write-sheet-requires c κs = search needs
 
-  abbrev designed : tie.After-params
-  designed = c .before .before
-
-  accepted-is : accepted sheet ≡ answer designed
-  accepted-is = sym (ap sheetAnswer (c .verdict2 .given .1)) ∙ told designed
-
-  -- where the design has one, the number of places decides
-  sized : (places : List ℤ) {n : ℕ} → n ≡ cond (leb 17 (length places)) 0 11 → n ≡ first (refusedBy (answer designed)) (cond (leb 17 (length places)) 0 11)
-  sized places e = then-is _ _ (ap refusedBy (sym accepted-is)) e
+returns : tie.Need-returns
+unfolding designAnswer
+returns c =
+    let arm = c .before in
+    let unread = design-refused _ _ (sym (arm .before .before .read-design .ensures) ∙ arm .number .given .1) in
+    refuses _ _ _ (unread .some) (first-is _ _ (unread .some) (unread .is))
 
 returns-2 : tie.Need-returns-2
 unfolding designAnswer
 returns-2 c =
-    let verdict = c .before .before in
-    let places = start (designed verdict) .args .sheet .now in
-    let short : _≡_ {A = ℕ} 11 (cond (leb 17 (length places)) 0 11) = rw (lt-leb 17 (length places) (c .if2 .taken)) refl in
-    refuses _ _ _ (λ z. absurd (omega arith)) (ordered (designed verdict) _ (sized verdict places short))
+    let arm = c .before .before in
+    let refused = arm .verdict .given in
+    let designed = arm .before .before in
+    let is : c .number2 .result ≡ refusedBy (answer designed) = c .number2 .ensures ∙ ap refusedBy (sym (ap sheetAnswer (refused .1)) ∙ told designed) in
+    let some : c .number2 .result ≡ 0 → ⊥ = λ z. omega (arith, sheet-numbered (refused .0 .0), c .number2 .ensures) in
+    refuses _ _ _ some (then-is _ _ (readable (designed .before .before) .none) (first-is _ _ some is))
 
-write-requires : tie.Need-write-requires
-write-requires c κs = search needs
+-- ---- the sheet
 
 same-length : tie.Need-same-length
 same-length c = search needs
 
-returns-4 : tie.Need-returns-4
-unfolding designAnswer
-returns-4 c =
-    let right = c .before .before .before in
-    let verdict = right .before .before in
-    let places = start (designed verdict) .args .sheet .now in
-    let long : _≡_ {A = ℕ} 0 (cond (leb 17 (length places)) 0 11) = rw (le-leb 17 (length places) (right .if2 .left)) refl in
-    writes _ _ _ (ordered (designed verdict) _ (sized verdict places long))
-    (c .before .write .ensures ∙ ap (λ (d : Designed Params). writtenBy d places) (accepted-is verdict))
+-- where the design has one, the number of places decides
+sized : (p : Params) (places : List ℤ) → sheetWritten p places ≡ answered (firstNumber 0 (cond (leb 17 (length places)) 0 11)) (writtenBy (accepted p) places) places
+unfolding sheetWritten
+sized p places = refl
 
-pub huntelm-design-spec : {M : Type 1} → statement M
-huntelm-design-spec =
+returns-3 : tie.Need-returns-3
+unfolding designAnswer
+returns-3 c =
+    let arm = c .before .before .before .before in
+    let designed = arm .before .before in
+    let places = start designed .args .sheet .now in
+    let room : ℕ = cond (leb 17 (length places)) 0 11 in
+    let is : accepted (arm .verdict2 .given .0 .0) ≡ answer designed = sym (ap sheetAnswer (arm .verdict2 .given .1)) ∙ told designed in
+    c .before .write-sheet .ensures
+    ∙ sized _ places
+    ∙ ap (λ (d : Designed Params). answered (firstNumber (refusedBy d) room) (writtenBy d places) places) is
+    ∙ sym (then-answer _ _ _ places (readable (designed .before .before) .none))
+
+pub design-spec : {M : Type 1} → statement M
+design-spec =
     tie.close
     (tie.spec
-    fault-requires
-    returns
-    design-of-requires
-    gains-of-requires
+    read-design-requires
+    enum-known-number
+    enum-known-design
     params-requires
     enum-known-verdict
     number-requires
     enum-known-verdict-2
+    write-sheet-requires
+    returns
     returns-2
-    write-requires
-    returns-3
     same-length
-    returns-4)
+    returns-3)

@@ -1,24 +1,24 @@
--- `archive::huntelm_judge` meets its contract: a sheet that cannot be read answers for itself, and one that can is judged.
+-- `calls::judge` meets its contract: a sheet that cannot be read answers for itself, and one that can is judged.
 use mathlib.Core.Path.{sym, ap, _∙_}
 use borrow.Author.Needs.{needs}
 use Rattle.params.specs.declared.Params.{Params}
 use Rattle.params.specs.Refusal.{Refusal}
 use Rattle.params.specs.Judge.{sheetOf, judged}
-use Rattle.archive.specs.Sheet.{sheetNumber}
-use Rattle.archive.specs.Calls.{judgeNumber, sheetAt}
-use Rattle.archive.proofs.Answers.{first-is, then-is}
-use Rattle.archive.proofs.huntelm_judge.Statement.{statement}
-use Rattle.archive.proofs.huntelm_judge.Tie as tie
+use Rattle.places.specs.Sheet.{sheetNumber}
+use Rattle.places.proofs.Read.{sheet-refused, sheet-read}
+use Rattle.calls.specs.Calls.{judgeNumber, sheetAt}
+use Rattle.calls.proofs.Answers.{first-is, then-is}
+use Rattle.calls.proofs.judge.Statement.{statement}
+use Rattle.calls.proofs.judge.Tie as tie
 
-fault-requires : tie.Need-fault-requires
-fault-requires c κs = search needs
+read-sheet-requires : tie.Need-read-sheet-requires
+read-sheet-requires c κs = search needs
 
-returns : tie.Need-returns
-unfolding judgeNumber
-returns c = first-is _ _ (c .if1 .taken) (c .before .fault .ensures)
+enum-known-number : tie.Need-enum-known-number
+enum-known-number c = search needs
 
-params-of-requires : tie.Need-params-of-requires
-params-of-requires c κs = search needs
+enum-known-p : tie.Need-enum-known-p
+enum-known-p c = search needs
 
 validate-requires : tie.Need-validate-requires
 validate-requires c κs = search needs
@@ -26,17 +26,33 @@ validate-requires c κs = search needs
 number-requires : tie.Need-number-requires
 number-requires c κs = search needs
 
+returns : tie.Need-returns
+unfolding judgeNumber
+returns c =
+    let arm = c .before in
+    let unread = sheet-refused _ (sym (arm .before .before .read-sheet .ensures) ∙ arm .number .given .1) in
+    first-is _ _ (unread .some) (unread .is)
+
 returns-2 : tie.Need-returns-2
 unfolding judgeNumber
 returns-2 c =
     let judging = c .before in
-    let read = judging .before in
-    let unread = read .before .before in
-    let a = unread .before .args in
-    then-is (sheetNumber (a .sheet .now)) (judged (sheetAt (a .sheet .now) (a .h .now) (a .g .now) (a .k .now)) .number)
-    (sym (unread .fault .ensures) ∙ read .before .if1 .left)
-    (c .number .ensures ∙ ap (λ (r : Refusal). r .number) (judging .validate .ensures)
-    ∙ ap (λ (p : Params). judged (sheetOf p (a .h .now) (a .g .now) (a .k .now)) .number) (read .params-of .ensures))
+    let arm = judging .before .before in
+    let read = arm .before .before in
+    let a = read .before .args in
+    let sheet = sheet-read _ (sym (read .read-sheet .ensures) ∙ arm .p .given .1) in
+    then-is (sheetNumber (a .sheet .now)) (judged (sheetAt (a .sheet .now) (a .h .now) (a .g .now) (a .k .now)) .number) (sheet .none)
+    (c .number2 .ensures ∙ ap (λ (r : Refusal). r .number) (judging .validate .ensures)
+    ∙ ap (λ (p : Params). judged (sheetOf p (a .h .now) (a .g .now) (a .k .now)) .number) (sheet .is))
 
-pub huntelm-judge-spec : {M : Type 1} → statement M
-huntelm-judge-spec = tie.close (tie.spec fault-requires returns params-of-requires validate-requires number-requires returns-2)
+pub judge-spec : {M : Type 1} → statement M
+judge-spec =
+    tie.close
+    (tie.spec
+    read-sheet-requires
+    enum-known-number
+    enum-known-p
+    validate-requires
+    number-requires
+    returns
+    returns-2)

@@ -1,11 +1,11 @@
--- `archive::no_state` meets its contract: a refusal of judging answers for itself, and 9 where there is none.
+-- `calls::no_state` meets its contract: a refusal of judging answers for itself, and 9 where there is none.
 use mathlib.Core.Path.{_≡_, ap, _∙_}
 use borrow.Author.Needs.{needs}
 use borrow.Author.Tests.{eq-eqb, ne-eqb}
 use Rattle.params.specs.Refusal.{Refusal}
 use Rattle.params.specs.Judge.{sheetOf, judged}
-use Rattle.archive.proofs.no_state.Statement.{statement}
-use Rattle.archive.proofs.no_state.Tie as tie
+use Rattle.calls.proofs.no_state.Statement.{statement}
+use Rattle.calls.proofs.no_state.Tie as tie
 
 validate-requires : tie.Need-validate-requires
 validate-requires c κs = search needs

@@ -1,4 +1,4 @@
--- `archive::huntelm_sample` meets its contract: after n turns the components of the first n floats stand in the first n places.
+-- `calls::sample` meets its contract: after n turns the components of the first n floats stand in the first n places.
 -- What is behind them is as it was (`lib.Seq`, `paste-suc`).
 use Prim.Native.Nat.{ℕ, suc, _+_, _-_, _%_, _≤_}
 use mathlib.Core.Path.{_≡_, refl, sym, _∙_}
@@ -18,10 +18,11 @@ use borrow.Author.Needs.{needs}
 use borrow.Author.Tests.{eq-eqb, ne-eqb, le-leb, lt-leb}
 use Rattle.arith.proofs.Bits.{held}
 use Rattle.input.specs.Input.{componentOf}
-use Rattle.archive.specs.Calls.{first, sampleAnswer}
-use Rattle.archive.proofs.Answers.{first-is, then-is, refuses, writes}
-use Rattle.archive.proofs.huntelm_sample.Statement.{statement}
-use Rattle.archive.proofs.huntelm_sample.Tie as tie
+use Rattle.places.proofs.Answered.{refuses, writes}
+use Rattle.calls.specs.Calls.{firstNumber, sampleAnswer}
+use Rattle.calls.proofs.Answers.{first-is, then-is}
+use Rattle.calls.proofs.sample.Statement.{statement}
+use Rattle.calls.proofs.sample.Tie as tie
 
 abbrev Inv-loop : tie.InvT-loop
 Inv-loop floats values₀ n₀ values n = (n ≤ length floats) × (length values ≡ length values₀) × (values ≡ paste values₀ 0 (map componentOf floats) n)
@@ -33,7 +34,7 @@ abbrev μ-loop : tie.MeasureT-loop
 
 -- where the number of floats is even, 11 is left
 even : (floats : List Float) (places : List ℤ) {n : ℕ} → length floats % 2 ≡ 0 → n ≡ cond (leb (length floats) (length places)) 0 11
-    → n ≡ first (cond (eqb (length floats % 2) 0) 0 10) (cond (leb (length floats) (length places)) 0 11)
+    → n ≡ firstNumber (cond (eqb (length floats % 2) 0) 0 10) (cond (leb (length floats) (length places)) 0 11)
 even floats places e k =
     let none : _≡_ {A = ℕ} (cond (eqb (length floats % 2) 0) 0 10) 0 = rw (eq-eqb (length floats % 2) 0 e) refl in
     then-is (cond (eqb (length floats % 2) 0) 0 10) (cond (leb (length floats) (length places)) 0 11) none k
@@ -111,8 +112,8 @@ returns-3 c =
     simp (zero-add, take-all (length floats) next (omega (arith, length-map floats componentOf))) in
     writes _ _ _ (even floats values (c .before .before .before .if1 .left) long) (rw e at (l .inv .2) ∙ all)
 
-pub huntelm-sample-spec : {M : Type 1} → statement M
-huntelm-sample-spec =
+pub sample-spec : {M : Type 1} → statement M
+sample-spec =
     tie.close
     (tie.spec
     Inv-loop
