@@ -35,14 +35,14 @@ fn state_kinds() -> [u8; 186]
 }
 
 // Whether the places are those of a state. Whether a block can go on from it is looked at by the block (document 01: refusal 9).
-fn fits(state: &[i64]) -> bool
-    ensures { λ r. ⌜ r ≡ stateFits (now (state .entry)) ⌝ }
+fn fits(places: &[i64]) -> bool
+    ensures { λ r. ⌜ r ≡ stateFits (now (places .entry)) ⌝ }
 {
-    if state.len() != 186 {
+    if places.len() != 186 {
         return false;
     }
     let types = state_kinds();
-    kinds::are_kinds(&types, state)
+    kinds::are_kinds(&types, places)
 }
 
 fn registers_of(state: &[i64]) -> Registers

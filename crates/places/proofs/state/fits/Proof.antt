@@ -12,7 +12,7 @@ use Rattle.places.proofs.state.fits.Tie as tie
 
 returns : tie.Need-returns
 unfolding stateFits
-returns c = rw (ne-eqb (length (c .before .args .state .now)) 186 (c .if1 .taken)) refl
+returns c = rw (ne-eqb (length (c .before .args .places .now)) 186 (c .if1 .taken)) refl
 
 state-kinds-requires : tie.Need-state-kinds-requires
 state-kinds-requires c κs = search needs
@@ -27,7 +27,7 @@ returns-2 : tie.Need-returns-2
 unfolding stateFits
 returns-2 c =
     let s = c .before .before .before in
-    let state = s .before .args .state .now in
+    let state = s .before .args .places .now in
     rw (eq-eqb (length state) 186 (s .if1 .left)) (c .are-kinds .ensures ∙ ap (λ (kinds : List ℕ). areKinds kinds state) (c .before .before .state-kinds .ensures))
 
 pub fits-spec : {M : Type 1} → statement M
