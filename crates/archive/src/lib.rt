@@ -35,7 +35,7 @@ pub extern "C" fn huntelm_block(
 ) -> i64
     ensures { λ r. ⌜ record { result = r; state = now (state .exit); output = now (out .exit) }
         ≡ blockAnswer (now (sheet .entry)) (now (h .entry)) (now (g .entry)) (now (k .entry))
-            (now (state .entry)) (now (values .entry)) (now (out .entry)) ⌝ }
+        (now (state .entry)) (now (values .entry)) (now (out .entry)) ⌝ }
 {
     calls::block(sheet, h, g, k, state, values, out)
 }

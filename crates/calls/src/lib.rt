@@ -68,7 +68,7 @@ pub fn block(
 ) -> i64
     ensures { λ r. ⌜ record { result = r; state = now (state .exit); output = now (out .exit) }
         ≡ blockAnswer (now (sheet .entry)) (now (h .entry)) (now (g .entry)) (now (k .entry))
-            (now (state .entry)) (now (values .entry)) (now (out .entry)) ⌝ }
+        (now (state .entry)) (now (values .entry)) (now (out .entry)) ⌝ }
 {
     match places::read_sheet(sheet) {
         ReadSheet::Refused(number) => 0 - number as i64,

@@ -37,4 +37,5 @@ placed f e =
 pub has-places : (f : Frontend) → Placed f → hasPlaces f ≡ true
 unfolding hasPlaces
 has-places f p =
-    and-both (le-leb _ _ (p .symbols)) (and-both (le-leb _ _ (p .head)) (and-both (le-leb _ _ (p .oldest)) (and-both (le-leb _ _ (p .waiting)) (le-leb _ _ (p .samples)))))
+    and-both (le-leb _ _ (p .symbols))
+    (and-both (le-leb _ _ (p .head)) (and-both (le-leb _ _ (p .oldest)) (and-both (le-leb _ _ (p .waiting)) (le-leb _ _ (p .samples)))))

@@ -1,6 +1,6 @@
 -- What was read, from the answer of reading: a refusal is the number of the places, and a sheet, a design or a state is that of places that can be read.
 use Prim.Native.Nat.{ℕ}
-use mathlib.Core.Path.{_≡_, refl, sym, ap}
+use mathlib.Core.Path.{_≡_, refl}
 use mathlib.Core.Bool.{Bool, true, false}
 use mathlib.Core.List.{List}
 use native.Mathlib.Omega.{arith}
@@ -13,7 +13,6 @@ use Rattle.design.specs.declared.Design.{Design}
 use Rattle.design.specs.declared.Gains.{Gains}
 use Rattle.places.specs.declared.ReadSheet.{ReadSheet}
 use Rattle.places.specs.declared.ReadDesign.{ReadDesign}
-use Rattle.places.specs.declared.ReadState.{ReadState}
 use Rattle.places.specs.Sheet.{sheetNumber, paramsAt, readSheet}
 use Rattle.places.specs.Rates.{designNumber, designAt, gainsAt, readDesign}
 use Rattle.places.specs.State.{stateFits, stateOf, readState}
@@ -62,13 +61,17 @@ unfolding readDesign
 design-refused rates fields {n} e = go (eqb (designNumber rates fields) 0) refl
   where
     go : (b : Bool) → eqb (designNumber rates fields) 0 ≡ b → Unread (designNumber rates fields) n
-    go true t = let k : ReadDesign.Design (designAt rates fields) (gainsAt fields) ≡ ReadDesign.Refused n = rw t at e in let z : _≡_ {A = ℕ} 0 1 = cc in absurd (omega arith)
+    go true t =
+        let k : ReadDesign.Design (designAt rates fields) (gainsAt fields) ≡ ReadDesign.Refused n = rw t at e in
+        let z : _≡_ {A = ℕ} 0 1 = cc in
+        absurd (omega arith)
     go false t =
         let k : ReadDesign.Refused (designNumber rates fields) ≡ ReadDesign.Refused n = rw t at e in
         let is : n ≡ designNumber rates fields = cc in
         record { is = is; some = λ z. eqb-false (designNumber rates fields) 0 t (cc) }
 
-pub design-read : (rates : List Float) (fields : List ℤ) {d : Design} {gains : Gains} → readDesign rates fields ≡ ReadDesign.Design d gains → Designed rates fields d gains
+pub design-read : (rates : List Float) (fields : List ℤ) {d : Design} {gains : Gains} → readDesign rates fields ≡ ReadDesign.Design d gains
+    → Designed rates fields d gains
 unfolding readDesign
 design-read rates fields {d} {gains} e = go (eqb (designNumber rates fields) 0) refl
   where
@@ -76,7 +79,10 @@ design-read rates fields {d} {gains} e = go (eqb (designNumber rates fields) 0) 
     go true t =
         let k : ReadDesign.Design (designAt rates fields) (gainsAt fields) ≡ ReadDesign.Design d gains = rw t at e in
         record { none = eqb-true (designNumber rates fields) 0 t; is = cc; with = cc }
-    go false t = let k : ReadDesign.Refused (designNumber rates fields) ≡ ReadDesign.Design d gains = rw t at e in let z : _≡_ {A = ℕ} 0 1 = cc in absurd (omega arith)
+    go false t =
+        let k : ReadDesign.Refused (designNumber rates fields) ≡ ReadDesign.Design d gains = rw t at e in
+        let z : _≡_ {A = ℕ} 0 1 = cc in
+        absurd (omega arith)
 
 -- ---- a state
 

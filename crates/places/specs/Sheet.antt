@@ -50,8 +50,9 @@ readSheet l = cond (eqb (sheetNumber l) 0) (Sheet (paramsAt l)) (Refused (sheetN
 -- The places of a sheet.
 unfoldable pub sheetNumbers : Params → List ℤ
 sheetNumbers p =
-    pos (p .taps) ∷ p .«nco_step» ∷ pos (p .«period_nominal») ∷ pos (p .«period_min») ∷ pos (p .«period_max») ∷ pos (p .«ted_shift») ∷ p .kp ∷ pos (p .«kp_shift») ∷ p .ki
-    ∷ pos (p .«ki_shift») ∷ p .«integrator_max» ∷ pos (p .«agc_init») ∷ pos (p .«agc_target») ∷ pos (p .«agc_shift») ∷ pos (p .bits) ∷ pos (p .«q_shift») ∷ pos (p .«block_log2») ∷ []
+    pos (p .taps) ∷ p .«nco_step» ∷ pos (p .«period_nominal») ∷ pos (p .«period_min») ∷ pos (p .«period_max») ∷ pos (p .«ted_shift»)
+    ∷ p .kp ∷ pos (p .«kp_shift») ∷ p .ki ∷ pos (p .«ki_shift») ∷ p .«integrator_max» ∷ pos (p .«agc_init») ∷ pos (p .«agc_target»)
+    ∷ pos (p .«agc_shift») ∷ pos (p .bits) ∷ pos (p .«q_shift») ∷ pos (p .«block_log2») ∷ []
 
 -- Writing a sheet: to the first 17 places, or 11 where there are fewer.
 unfoldable pub sheetWritten : Params → List ℤ → Answer

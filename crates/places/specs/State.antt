@@ -76,8 +76,8 @@ readState l = cond (stateFits l) (record { fits = true; state = stateOf l }) (re
 -- The first ten places of a state.
 abbrev pub firstNumbers : Frontend → List ℤ
 firstNumbers f =
-    pos (f .registers .nco) ∷ f .registers .«t_acc» ∷ f .registers .v ∷ pos (f .registers .period) ∷ pos (f .registers .«gain_acc») ∷ pos (f .registers .symbols)
-    ∷ pos (f .head) ∷ pos (f .oldest) ∷ pos (f .waiting) ∷ pos (f .samples) ∷ []
+    pos (f .registers .nco) ∷ f .registers .«t_acc» ∷ f .registers .v ∷ pos (f .registers .period) ∷ pos (f .registers .«gain_acc»)
+    ∷ pos (f .registers .symbols) ∷ pos (f .head) ∷ pos (f .oldest) ∷ pos (f .waiting) ∷ pos (f .samples) ∷ []
 
 -- All places of a state.
 unfoldable pub numbersOf : Frontend → List ℤ

@@ -11,7 +11,6 @@ use design::Design;
 use design::Gains;
 use fixed::Frontend;
 use params::Params;
-
 pub use rates::read_design;
 pub use sheet::no_sheet;
 pub use sheet::read_sheet;

@@ -99,7 +99,8 @@ fn behind(n: usize, count: usize) -> u8
 
 // Prints numbers as a line, or nothing where 22 bytes a number do not fit.
 pub fn put_row(values: &[i64], out: &mut [u8], at: usize) -> usize
-    ensures { λ r. ⌜ Put (roomed (22 * length (now (values .entry))) (now (out .entry)) at (lineText (now (values .entry)))) (now (out .entry)) at r (now (out .exit)) ⌝ }
+    ensures { λ r. ⌜ Put (roomed (22 * length (now (values .entry))) (now (out .entry)) at (lineText (now (values .entry))))
+        (now (out .entry)) at r (now (out .exit)) ⌝ }
 {
     if out.len() < at {
         return at;

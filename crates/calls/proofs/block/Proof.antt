@@ -2,10 +2,9 @@
 -- places again (Answers, `left`), and its symbols can be counted.
 use Prim.Native.Nat.{ℕ, _^_, _≤_, _<_}
 use mathlib.Core.Path.{_≡_, refl, sym, ap, subst, _∙_}
-use mathlib.Core.Bool.{true, cond, _&&_}
+use mathlib.Core.Bool.{true}
 use mathlib.Core.List.{List}
 use native.Mathlib.Omega.{arith}
-use lib.Dec.{eqb}
 use lib.ListN.{length}
 use lib.IntN.{ℤ, pos, negℤ}
 use mir.Syntax.{w64}
@@ -140,7 +139,8 @@ module _ (c : tie.After-process) where
   told : processed (c .process .result) (c .process .last .1 .1 .1 .1 .1 .1 .0) ≡ done
   told =
       let a = start .args in
-      let of-p : Params → Block = λ p. blockOf (sheetOf p (a .h .now) (a .g .now) (a .k .now)) (given .read-state .result .state) (a .values .now) (a .out .now) in
+      let f = given .read-state .result .state in
+      let of-p : Params → Block = λ p. blockOf (sheetOf p (a .h .now) (a .g .now) (a .k .now)) f (a .values .now) (a .out .now) in
       let of-f : Frontend → Block = λ f. blockOf (sheetAt (a .sheet .now) (a .h .now) (a .g .now) (a .k .now)) f (a .values .now) (a .out .now) in
       c .process .ensures
       ∙ ap of-p (readable arm .is)

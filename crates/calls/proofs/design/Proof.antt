@@ -109,7 +109,8 @@ same-length : tie.Need-same-length
 same-length c = search needs
 
 -- where the design has one, the number of places decides
-sized : (p : Params) (places : List ℤ) → sheetWritten p places ≡ answered (firstNumber 0 (cond (leb 17 (length places)) 0 11)) (writtenBy (accepted p) places) places
+sized : (p : Params) (places : List ℤ)
+    → sheetWritten p places ≡ answered (firstNumber 0 (cond (leb 17 (length places)) 0 11)) (writtenBy (accepted p) places) places
 unfolding sheetWritten
 sized p places = refl
 

@@ -9,7 +9,7 @@ use borrow.Author.Needs.{needs}
 use Rattle.params.specs.declared.Params.{Params}
 use Rattle.params.specs.Judge.{Sheet, sheetOf}
 use Rattle.fixed.specs.Start.{Start, startOf, started}
-use Rattle.places.specs.Answer.{Answer, answered}
+use Rattle.places.specs.Answer.{answered}
 use Rattle.places.specs.Sheet.{sheetNumber}
 use Rattle.places.specs.State.{numbersOf, stateWritten}
 use Rattle.places.proofs.Answered.{refuses}

@@ -33,7 +33,8 @@ unfolding readDesign
 returns-2 c =
     let made = c .before in
     let a = made .before .before .before .before .args in
-    rw (eq-eqb (designNumber (a .rates .now) (a .fields .now)) 0 (none (made .before))) (λ i. ReadDesign.Design (made .design-of .ensures i) (c .gains-of .ensures i))
+    rw (eq-eqb (designNumber (a .rates .now) (a .fields .now)) 0 (none (made .before)))
+    (λ i. ReadDesign.Design (made .design-of .ensures i) (c .gains-of .ensures i))
 
 pub read-design-spec : {M : Type 1} → statement M
 read-design-spec =

@@ -1,4 +1,5 @@
--- `places::sheet::params_of` meets its contract: each place of a sheet that can be read has a number of its field's type (Readable), and the field is that number.
+-- `places::sheet::params_of` meets its contract: each place of a sheet that can be read has a number of its field's type (Readable).
+-- And the field is that number.
 use Prim.Native.Nat.{ℕ, _^_, _<_}
 use mathlib.Core.Path.{_≡_, _∙_}
 use lib.Dec.{lit<}

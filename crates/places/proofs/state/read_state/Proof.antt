@@ -4,7 +4,6 @@ use mathlib.Core.Bool.{true, false}
 use borrow.Author.Needs.{needs}
 use borrow.Author.Tests.{not-true, not-false}
 use Rattle.fixed.specs.declared.Frontend.{Frontend}
-use Rattle.places.specs.declared.ReadState.{ReadState}
 use Rattle.places.specs.State.{stateFits, readState}
 use Rattle.places.proofs.state.read_state.Statement.{statement}
 use Rattle.places.proofs.state.read_state.Tie as tie
@@ -19,7 +18,8 @@ returns : tie.Need-returns
 unfolding readState
 returns c =
     let tested = c .before .before in
-    let unfit : stateFits (tested .before .args .state .now) ≡ false = sym (tested .fits2 .ensures) ∙ not-true (tested .fits2 .result) (c .before .if1 .taken) in
+    let unfit : stateFits (tested .before .args .state .now) ≡ false =
+    sym (tested .fits2 .ensures) ∙ not-true (tested .fits2 .result) (c .before .if1 .taken) in
     rw unfit (ap (λ (f : Frontend). record { fits = false; state = f }) (c .zeros .ensures))
 
 fitting : (c : tie.Else1) → stateFits (c .before .before .args .state .now) ≡ true

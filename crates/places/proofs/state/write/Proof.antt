@@ -1,4 +1,5 @@
--- `places::state::write` meets its contract: the ten first places, the line's and the errors' are written one after the other, and nothing of the old places is left.
+-- `places::state::write` meets its contract: the ten first places, the line's and the errors' are written one after the other.
+-- Nothing of the old places is left.
 use mathlib.Core.Path.{_≡_, refl, sym, ap, _∙_}
 use mathlib.Core.List.{List, _++_, append-assoc}
 use native.Mathlib.Omega.{arith}

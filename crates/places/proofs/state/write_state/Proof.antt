@@ -16,7 +16,8 @@ returns : tie.Need-returns
 unfolding stateWritten
 returns c =
     let a = c .before .args in
-    let other : _≡_ {A = ℕ} 9 (cond (eqb (length (a .state .now)) 186 && hasPlaces (a .f)) 0 9) = rw (ne-eqb (length (a .state .now)) 186 (c .if1 .taken)) refl in
+    let other : _≡_ {A = ℕ} 9 (cond (eqb (length (a .state .now)) 186 && hasPlaces (a .f)) 0 9) =
+    rw (ne-eqb (length (a .state .now)) 186 (c .if1 .taken)) refl in
     refuses _ _ _ (λ z. absurd (omega arith)) other
 
 has-places-requires : tie.Need-has-places-requires

@@ -30,7 +30,8 @@ up-small : (k : ℕ) → upOf k < 2 ^ 63
 unfolding mostOf
 up-small k = go (eqb k u8) (eqb k u32) (eqb k i16) (eqb k i32)
   where
-    go : (a b c d : Bool) → magnitudeOf (cond a (pos 255) (cond b (pos 4294967295) (cond c (pos 32767) (cond d (pos 2147483647) (pos 9223372036854775807))))) < 2 ^ 63
+    go : (a b c d : Bool)
+        → magnitudeOf (cond a (pos 255) (cond b (pos 4294967295) (cond c (pos 32767) (cond d (pos 2147483647) (pos 9223372036854775807))))) < 2 ^ 63
     go true b c d = omega arith
     go false true c d = omega arith
     go false false true d = omega arith
