@@ -7,3 +7,4 @@ pub mod Rounding
 pub mod Modulus
 pub mod Widths
 pub mod Tested
+pub mod Both

@@ -1,10 +1,10 @@
 -- The path's arithmetic over ℤ, where nothing overflows. The functions of src/ are proved equal to these on every input.
 -- `shrZ z m` of the kit divides z by m and rounds down, also below zero: with m = 2 ^ s it is the shift right by s.
 use Prim.Native.Nat.{ℕ, _-_, _%_, _^_}
-use mathlib.Core.Bool.{cond}
+use mathlib.Core.Bool.{Bool, cond, _&&_}
 use lib.Dec.{eqb}
 use lib.IntN.{ℤ, pos, negsuc, _+ℤ_, _-ℤ_}
-use lib.Signed.{ltZ, shrZ}
+use lib.Signed.{ltZ, leZ, shrZ}
 
 -- R(v, s): v divided by 2^s and rounded to the nearest whole number, a half upward; nothing is done at s = 0.
 -- (Document 01, 'A sample's way', a symbol: the two rules of R.)
@@ -31,3 +31,7 @@ modZ (negsuc n) m = m - 1 - n % m
 -- (Document 01, 'A sample's way', err: "reduced to 32 bits signed modulo 2^32".)
 unfoldable pub wrapI32 : ℤ → ℤ
 wrapI32 v = pos (modZ (v +ℤ pos (2 ^ 31)) (2 ^ 32)) -ℤ pos (2 ^ 31)
+
+-- v lies from lo to hi.
+abbrev pub within : ℤ → ℤ → ℤ → Bool
+within lo hi v = leZ lo v && leZ v hi

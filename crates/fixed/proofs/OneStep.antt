@@ -7,19 +7,20 @@ use native.Mathlib.Omega.{arith}
 use lib.IntN.{pos}
 use lib.Signed.{leZ}
 use borrow.Author.Tests.{lt-ltb, le-leb}
+use Rattle.arith.proofs.Both.{and-both}
 use Rattle.params.specs.declared.Params.{Params}
 use Rattle.registers.specs.Step.{canMakeSymbol, afterSymbol}
 use Rattle.state.specs.declared.Frontend.{Frontend}
 use Rattle.fixed.specs.Sample.{due, withSymbol, falls}
 use Rattle.state.specs.Check.{goodState}
 use Rattle.fixed.specs.OneStep.{OneStep}
-use Rattle.state.proofs.Going.{time, going, both}
+use Rattle.state.proofs.Going.{time, going}
 
 can-make : (p : Params) (f : Frontend) → goodState p f ≡ true → falls f ≡ true → f .samples < 18446744073709551615 → canMakeSymbol p (f .registers) ≡ true
 unfolding canMakeSymbol
 can-make p f good soon room =
     let g = going p f good in
-    both (both (both (ap (leZ (pos 0)) (g .whole) ∙ le-leb 0 (time f) (omega arith)) soon) (both (g .loop .v .low) (g .loop .v .high)))
+    and-both (and-both (and-both (ap (leZ (pos 0)) (g .whole) ∙ le-leb 0 (time f) (omega arith)) soon) (and-both (g .loop .v .low) (g .loop .v .high)))
     (lt-ltb (f .registers .symbols) 18446744073709551615 (omega (arith, g .few, room)))
 
 pub one-step : OneStep

@@ -11,7 +11,9 @@ use lib.Seq.{take-suc, split-at, length-take-le}
 use lib.IntN.{ℤ, pos, negsuc, natAbs}
 use borrow.Author.Tests.{le-leb, lt-leb, lt-ltb, le-ltb, eq-eqb, ne-eqb, eqb-true, eqb-false}
 use Rattle.params.specs.Refusal.{Refusal, refusal}
-use Rattle.params.specs.Judge.{unless, firstOf, within, coefficientFaults, magnitudes, rowFaults, detectorPlace, zeroOutside}
+use Rattle.arith.specs.Arith.{within}
+pub use Rattle.arith.proofs.Both.{and-left, and-right}
+use Rattle.params.specs.Judge.{unless, firstOf, coefficientFaults, magnitudes, rowFaults, detectorPlace, zeroOutside}
 
 -- ---- the sum of the magnitudes
 
@@ -76,14 +78,6 @@ module _ (bank phase : ℕ) where
   light-row row h = rw (light-coefficients row h, le-leb (magnitudes row) 131071 h)
 
 -- ---- tests on sums
-
-pub and-left : (a b : Bool) → (a && b) ≡ true → a ≡ true
-and-left true b e = refl
-and-left false b e = e
-
-pub and-right : (a b : Bool) → (a && b) ≡ true → b ≡ true
-and-right true b e = e
-and-right false b e = let z : _≡_ {A = ℕ} 0 1 = cc in absurd (omega arith)
 
 pub and-assoc : (x y z : Bool) → (x && (y && z)) ≡ (x && y && z)
 and-assoc true y z = refl

@@ -6,7 +6,7 @@ use mathlib.Core.List.{List, [], _∷_, _++_, flatten}
 use lib.Dec.{ltb, leb, eqb}
 use lib.ListN.{length, take, drop}
 use lib.IntN.{ℤ, pos, negsuc, natAbs}
-use lib.Signed.{leZ}
+use Rattle.arith.specs.Arith.{within}
 use Rattle.params.specs.declared.Params.{Params}
 use Rattle.params.specs.Refusal.{Refusal, refusal, nothing}
 
@@ -28,10 +28,6 @@ unless kept r = cond kept [] (r ∷ [])
 abbrev pub firstOf : List Refusal → Refusal
 firstOf [] = nothing
 firstOf (r ∷ rs) = r
-
--- v lies from lo to hi.
-abbrev pub within : ℤ → ℤ → ℤ → Bool
-within lo hi v = leZ lo v && leZ v hi
 
 -- ---- taps and lengths
 

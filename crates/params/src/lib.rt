@@ -7,7 +7,8 @@ ghost use Prim.Native.Nat.{_+_, _-_, _/_, min};
 ghost use lib.Dec.{leb};
 ghost use lib.IntN.{pos};
 ghost use Rattle.params.specs.Refusal.{errorRefusal, verdictRefusal};
-ghost use Rattle.params.specs.Judge.{sheetOf, firstOf, within, goodTaps, lengthFaults, goodPeriods, fieldFaults, judged};
+ghost use Rattle.arith.specs.Arith.{within};
+ghost use Rattle.params.specs.Judge.{sheetOf, firstOf, goodTaps, lengthFaults, goodPeriods, fieldFaults, judged};
 ghost use Rattle.params.specs.Offset.{offsetRefusal, offsetParts, partsOf, offsetOf};
 
 // The run-time parameters (document 01: the sheet). The banks h, g and k are lent beside it, each 64 rows of `taps` numbers, row by row.

@@ -6,7 +6,7 @@ use lib.Dec.{eqb, ltb}
 use lib.IntN.{ℤ, pos, negℤ, _+ℤ_, _-ℤ_}
 use lib.Signed.{leZ, ltZ}
 use Rattle.params.specs.declared.Params.{Params}
-use Rattle.params.specs.Judge.{within}
+use Rattle.arith.specs.Arith.{within}
 use Rattle.registers.specs.declared.Pending.{Pending}
 use Rattle.registers.specs.declared.Registers.{Registers}
 use Rattle.registers.specs.declared.AfterSymbol.{AfterSymbol}

@@ -2,8 +2,9 @@
 use crate::answer;
 use crate::sheet::Sheet;
 use crate::state;
-use fixed::Frontend;
+use state::Frontend;
 use fixed::Processed;
+use places::ReadSheet;
 use replay::Tally;
 use replay::rows;
 
@@ -224,6 +225,19 @@ impl Replay {
         self.counted(self.is_answered(row, room, &*out))
     }
 
+    // Row 0: the fields of a sheet. Where these are no sheet's, it is an answer that differs.
+    fn with_fields(self, fields: &[i64]) -> Replay {
+        match places::read_sheet(fields) {
+            ReadSheet::Sheet(params) => {
+                let sheet = self.sheet;
+                let mut next = self;
+                next.sheet = sheet.with_params(params);
+                next
+            }
+            ReadSheet::Refused(_) => self.counted(false),
+        }
+    }
+
     // With a row.
     fn with_row(
         self,
@@ -233,10 +247,13 @@ impl Replay {
         out: &mut [i64],
     ) -> Replay {
         let kind = rows::at(row, 0);
+        let sheet = self.sheet;
         let mut next = self;
-        if 0 <= kind && kind < 4 {
-            let sheet = self.sheet;
-            next.sheet = sheet.with(kind, rows::rest(row, 1), room);
+        if kind == 0 {
+            return self.with_fields(rows::rest(row, 1));
+        }
+        if 0 < kind && kind < 4 {
+            next.sheet = sheet.with_bank(kind, rows::rest(row, 1), room);
             return next;
         }
         if kind == 6 {

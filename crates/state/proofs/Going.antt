@@ -9,8 +9,8 @@ use lib.Signed.{leZ, ltZ}
 use borrow.Author.Tests.{ltb-true, leb-true, eqb-true, lt-ltb, le-leb, eq-eqb}
 use Rattle.arith.proofs.Order.{eq-pn, minus-pn}
 use Rattle.params.specs.declared.Params.{Params}
-use Rattle.params.specs.Judge.{within}
-use Rattle.params.proofs.Rows.{and-left, and-right}
+use Rattle.arith.specs.Arith.{within}
+use Rattle.arith.proofs.Both.{and-left, and-right, and-both}
 use Rattle.registers.specs.declared.Registers.{Registers}
 use Rattle.registers.specs.Correct.{integratorEnd}
 use Rattle.registers.specs.Step.{loopDelay}
@@ -93,18 +93,15 @@ going p f e =
       few = leb-true (r .symbols) (f .samples) (and-right c9 b10 e);
     }
 
-pub both : {a b : Bool} → a ≡ true → b ≡ true → (a && b) ≡ true
-both {a} {b} p q = ap (λ (x : Bool). x && b) p ∙ q
-
 pub good : (p : Params) (f : Frontend) → Going p f → goodState p f ≡ true
 unfolding goodState
 good p f g =
     let t = time f in
-    both (both (both (both (both (both (both (both (both
+    and-both (and-both (and-both (and-both (and-both (and-both (and-both (and-both (and-both
     (lt-ltb (f .head) (p .taps) (g .head))
     (ap (leZ (pos 0)) (g .whole) ∙ le-leb 0 t (omega arith)))
     (ap (λ (z : ℤ). ltZ z (pos 67108864)) (g .whole) ∙ lt-ltb t 67108864 (g .soon)))
-    (both (g .loop .v .low) (g .loop .v .high)))
+    (and-both (g .loop .v .low) (g .loop .v .high)))
     (le-leb _ _ (g .loop .low)))
     (le-leb _ _ (g .loop .high)))
     (le-leb _ _ (g .loop .gain)))

@@ -3,9 +3,9 @@ use crate::input::Input;
 use crate::output::Output;
 use crate::sheet::Head;
 use crate::stop::Stop;
-use fixed::Frontend;
+use state::Frontend;
+use kinds::I16;
 use params::Params;
-use text::I16;
 
 const PAIR: [u8; 2] = [I16, I16];
 

@@ -1,4 +1,4 @@
--- How a number is read: from the left, digit by digit, and cut at 2^40, which no type's ends reach.
+-- How a number is read: from the left, digit by digit, and cut at 2^63 + 1, which no type's ends reach.
 use mathlib.Core.Path.{_≡_, refl, sym, ap, _∙_}
 use mathlib.Core.List.{List, [], _∷_}
 use mathlib.Core.Bool.{cond}
@@ -15,7 +15,7 @@ use lib.Seq.{drop-cons}
 use borrow.Author.Tests.{lt-ltb, le-ltb, eq-eqb, ne-eqb}
 use Rattle.text.specs.declared.Field.{Field}
 use Rattle.text.specs.Number.{Said, none, some, digitsAfter, numeral}
-use Rattle.text.specs.Field.{held, plain, negative, aboveZero, belowZero, wrongForm, outside, holds, fieldIn}
+use Rattle.text.specs.Field.{keptDigits, plain, negative, aboveZero, belowZero, wrongForm, outside, holds, fieldIn}
 
 -- ---- the first byte
 
@@ -36,10 +36,10 @@ module _ (s : List ℕ) (at : ℕ) where
       let n : suc at < length s = omega arith in
       rw (drop-cons s at 0 h, e, drop-cons s (suc at) 0 n)
 
-  pub zero-first : at < length s → getD s at 0 ≡ 48 → held (numeral (drop at s)) ≡ record { formed = eqb (length s - at) 1; size = 0 }
+  pub zero-first : at < length s → getD s at 0 ≡ 48 → keptDigits (numeral (drop at s)) ≡ record { formed = eqb (length s - at) 1; size = 0 }
   zero-first h e = elim (decLe (length s - at) 1) [
-    | yes l ↦ let o : length s - at ≡ 1 = omega arith in ap held (zero-alone h e o) ∙ rw (eq-eqb (length s - at) 1 o) refl
-    | no g ↦ let o : (length s - at ≡ 1 → ⊥) = λ (q : length s - at ≡ 1). omega arith in ap held (zero-more h e o) ∙ rw (ne-eqb (length s - at) 1 o) refl
+    | yes l ↦ let o : length s - at ≡ 1 = omega arith in ap keptDigits (zero-alone h e o) ∙ rw (eq-eqb (length s - at) 1 o) refl
+    | no g ↦ let o : (length s - at ≡ 1 → ⊥) = λ (q : length s - at ≡ 1). omega arith in ap keptDigits (zero-more h e o) ∙ rw (ne-eqb (length s - at) 1 o) refl
   ]
 
   pub start : at < length s → (getD s at 0 ≡ 48 → ⊥) → numeral (drop at s) ≡ digitsAfter 0 (drop at s)
@@ -65,28 +65,28 @@ module _ (s : List ℕ) (i : ℕ) (w : ℕ) where
   unfolding digitsAfter
   end h = rw (drop-of-length-le s h)
 
-pub cut-again : (v w d : ℕ) → v ≡ min w (2 ^ 40) → min (v * 10 + d) (2 ^ 40) ≡ min (w * 10 + d) (2 ^ 40)
+pub cut-again : (v w d : ℕ) → v ≡ min w (2 ^ 63 + 1) → min (v * 10 + d) (2 ^ 63 + 1) ≡ min (w * 10 + d) (2 ^ 63 + 1)
 cut-again v w d e = omega arith
 
 -- ---- a number that is cut says as much of a field as the whole one
 
-same-test : (n end : ℕ) → end < 2 ^ 40 → (f : ℕ → Field) → cond (ltb end (min n (2 ^ 40))) outside (f (min n (2 ^ 40))) ≡ cond (ltb end n) outside (f n)
+same-test : (n end : ℕ) → end ≤ 2 ^ 63 → (f : ℕ → Field) → cond (ltb end (min n (2 ^ 63 + 1))) outside (f (min n (2 ^ 63 + 1))) ≡ cond (ltb end n) outside (f n)
 same-test n end h f = elim (decLe n end) [
-  | yes l ↦ let e : min n (2 ^ 40) ≡ n = omega arith in rw e refl
-  | no g ↦ let m : end < min n (2 ^ 40) = omega arith in let m2 : end < n = omega arith in rw (lt-ltb end (min n (2 ^ 40)) m, lt-ltb end n m2) refl
+  | yes l ↦ let e : min n (2 ^ 63 + 1) ≡ n = omega arith in rw e refl
+  | no g ↦ let m : end < min n (2 ^ 63 + 1) = omega arith in let m2 : end < n = omega arith in rw (lt-ltb end (min n (2 ^ 63 + 1)) m, lt-ltb end n m2) refl
 ]
 
-same-zero : (n : ℕ) → eqb (min n (2 ^ 40)) 0 ≡ eqb n 0
+same-zero : (n : ℕ) → eqb (min n (2 ^ 63 + 1)) 0 ≡ eqb n 0
 same-zero n = elim (eq-zero-or-pos n) [
-  | inl e ↦ ap (λ (k : ℕ). eqb (min k (2 ^ 40)) 0) e ∙ sym (eq-eqb n 0 e)
-  | inr p ↦ ne-eqb (min n (2 ^ 40)) 0 (λ (e : min n (2 ^ 40) ≡ 0). omega arith) ∙ sym (ne-eqb n 0 (λ (e : n ≡ 0). omega arith))
+  | inl e ↦ ap (λ (k : ℕ). eqb (min k (2 ^ 63 + 1)) 0) e ∙ sym (eq-eqb n 0 e)
+  | inr p ↦ ne-eqb (min n (2 ^ 63 + 1)) 0 (λ (e : min n (2 ^ 63 + 1) ≡ 0). omega arith) ∙ sym (ne-eqb n 0 (λ (e : n ≡ 0). omega arith))
 ]
 
-pub above-is : (up : ℕ) (w : Said) → up < 2 ^ 40 → aboveZero up (held w) ≡ plain up w
+pub above-is : (up : ℕ) (w : Said) → up ≤ 2 ^ 63 → aboveZero up (keptDigits w) ≡ plain up w
 above-is up none h = refl
 above-is up (some n) h = same-test n up h (λ (k : ℕ). holds (pos k))
 
-pub below-is : (down : ℕ) (w : Said) → down < 2 ^ 40 → belowZero down (held w) ≡ negative down w
+pub below-is : (down : ℕ) (w : Said) → down ≤ 2 ^ 63 → belowZero down (keptDigits w) ≡ negative down w
 below-is down none h = refl
 below-is down (some n) h = rw (same-zero n) (ap (λ (f : Field). cond (eqb n 0) wrongForm f) (same-test n down h (λ (k : ℕ). holds (negℤ (pos k)))))
 
@@ -97,12 +97,12 @@ unfolding fieldIn
 no-bytes [] down up h = refl
 no-bytes (b ∷ t) down up h = absurd (omega arith)
 
-pub with-minus : (s : List ℕ) (down up : ℕ) → 0 < length s → getD s 0 0 ≡ 45 → down < 2 ^ 40 → belowZero down (held (numeral (drop 1 s))) ≡ fieldIn down up s
+pub with-minus : (s : List ℕ) (down up : ℕ) → 0 < length s → getD s 0 0 ≡ 45 → down ≤ 2 ^ 63 → belowZero down (keptDigits (numeral (drop 1 s))) ≡ fieldIn down up s
 unfolding fieldIn
 with-minus [] down up h e d = absurd (omega arith)
 with-minus (b ∷ t) down up h e d = rw (eq-eqb b 45 e) (below-is down (numeral t) d)
 
-pub without-minus : (s : List ℕ) (down up : ℕ) → 0 < length s → (getD s 0 0 ≡ 45 → ⊥) → up < 2 ^ 40 → aboveZero up (held (numeral (drop 0 s))) ≡ fieldIn down up s
+pub without-minus : (s : List ℕ) (down up : ℕ) → 0 < length s → (getD s 0 0 ≡ 45 → ⊥) → up ≤ 2 ^ 63 → aboveZero up (keptDigits (numeral (drop 0 s))) ≡ fieldIn down up s
 unfolding fieldIn
 without-minus [] down up h e d = absurd (omega arith)
 without-minus (b ∷ t) down up h e d = rw (ne-eqb b 45 e) (above-is up (numeral (b ∷ t)) d)

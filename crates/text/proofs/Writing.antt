@@ -14,7 +14,7 @@ use lib.ListN.{length, drop, getD, set, length-append, drop-of-length-le}
 use lib.Seq.{sets, set-comm, drop-cons}
 use borrow.Author.Tests.{lt-ltb, le-ltb, le-leb, lt-leb}
 use Rattle.text.specs.Number.{digitsOf, decimal, lastDigits, magnitudeOf, textOf}
-use Rattle.text.specs.Print.{Put, roomed, endsWith, rowOf, endOf, refusedOf}
+use Rattle.text.specs.Print.{Put, roomed, endsWith, lineText, endOf, refusedOf}
 
 -- ---- stores one after the other
 
@@ -116,12 +116,12 @@ behind-is zs n = elim (decLe (length zs) n) [
   | no g ↦ let h : n < length zs = omega arith in rw (lt-ltb n (length zs) h, drop-cons zs n (pos 0) h) refl
 ]
 
-pub row-step : (zs : List ℤ) (n : ℕ) → n < length zs → rowOf (drop n zs) ≡ textOf (getD zs n (pos 0)) ++ (cond (ltb (n + 1) (length zs)) 44 10 ∷ rowOf (drop (n + 1) zs))
-unfolding rowOf
+pub row-step : (zs : List ℤ) (n : ℕ) → n < length zs → lineText (drop n zs) ≡ textOf (getD zs n (pos 0)) ++ (cond (ltb (n + 1) (length zs)) 44 10 ∷ lineText (drop (n + 1) zs))
+unfolding lineText
 row-step zs n h = rw (behind-is zs (n + 1), add-one, drop-cons zs n (pos 0) h)
 
-pub row-end : (zs : List ℤ) (n : ℕ) → length zs ≤ n → rowOf (drop n zs) ≡ []
-unfolding rowOf
+pub row-end : (zs : List ℤ) (n : ℕ) → length zs ≤ n → lineText (drop n zs) ≡ []
+unfolding lineText
 row-end zs n h = rw (drop-of-length-le zs h)
 
 pub with-room : (room at : ℕ) (out text : List ℕ) → at + room ≤ length out → roomed room out at text ≡ text
@@ -140,10 +140,10 @@ nothing-put room at out text h = rw (without-room room at out text h) (record { 
 
 pub end-text : (samples symbols : ℕ) (t : ℤ) →
     ((((((101 ∷ 110 ∷ 100 ∷ 44 ∷ []) ++ decimal samples) ++ (44 ∷ [])) ++ decimal symbols) ++ (44 ∷ [])) ++ textOf t) ++ (10 ∷ []) ≡ endOf samples symbols t
-unfolding endOf rowOf textOf
+unfolding endOf lineText textOf
 end-text samples symbols t = simp append-assoc
 
 pub refused-text : (number line : ℕ) →
     ((((114 ∷ 101 ∷ 102 ∷ 117 ∷ 115 ∷ 101 ∷ 100 ∷ 44 ∷ []) ++ decimal number) ++ (44 ∷ [])) ++ decimal line) ++ (10 ∷ []) ≡ refusedOf number line
-unfolding refusedOf rowOf textOf
+unfolding refusedOf lineText textOf
 refused-text number line = simp append-assoc

@@ -1,20 +1,21 @@
--- A field as one of four types.
+-- A field as one of the types of crates/kinds.
 -- (Document 01, 'The symbol program': 18, wrong form; 19, a value outside its type. 'The sheet' and 'A block' give the types.)
-use Prim.Native.Nat.{ℕ, _^_, min}
+use Prim.Native.Nat.{ℕ, _+_, _^_, min}
 use mathlib.Core.List.{List, [], _∷_}
 use mathlib.Core.Bool.{true, false, cond}
 use lib.Dec.{ltb, eqb}
 use lib.IntN.{ℤ, pos, negℤ}
 use Rattle.text.specs.declared.Digits.{Digits}
 use Rattle.text.specs.declared.Field.{Field}
-use Rattle.text.specs.Number.{Said, none, some, numeral}
+use Rattle.kinds.specs.Kinds.{leastOf, mostOf}
+use Rattle.text.specs.Number.{Said, none, some, numeral, magnitudeOf}
 
--- How far a type reaches below and above zero: 0 is u8, 1 i16, 2 i32, and every other u32.
+-- How far a type reaches below and above zero.
 abbrev pub downOf : ℕ → ℕ
-downOf kind = cond (eqb kind 1) 32768 (cond (eqb kind 2) 2147483648 0)
+downOf kind = magnitudeOf (leastOf kind)
 
 abbrev pub upOf : ℕ → ℕ
-upOf kind = cond (eqb kind 0) 255 (cond (eqb kind 1) 32767 (cond (eqb kind 2) 2147483647 4294967295))
+upOf kind = magnitudeOf (mostOf kind)
 
 -- A field of wrong form, one outside its type, and a value.
 abbrev pub wrongForm : Field
@@ -43,11 +44,11 @@ fieldIn down up (b ∷ t) = cond (eqb b 45) (negative down (numeral t)) (plain u
 unfoldable pub fieldOf : ℕ → List ℕ → Field
 fieldOf kind l = fieldIn (downOf kind) (upOf kind) l
 
--- ---- what the code keeps of a number while it reads: no more than 2^40, which is past the ends of every type
+-- ---- what the code keeps of a number while it reads: no more than 2^63 + 1, which is past the ends of every type
 
-abbrev pub held : Said → Digits
-held none = record { formed = false; size = 0 }
-held (some n) = record { formed = true; size = min n (2 ^ 40) }
+abbrev pub keptDigits : Said → Digits
+keptDigits none = record { formed = false; size = 0 }
+keptDigits (some n) = record { formed = true; size = min n (2 ^ 63 + 1) }
 
 abbrev pub aboveZero : ℕ → Digits → Field
 aboveZero up d = cond (d .formed) (cond (ltb up (d .size)) outside (holds (pos (d .size)))) wrongForm

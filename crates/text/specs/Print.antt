@@ -16,16 +16,16 @@ endsWith [] = 10
 endsWith (z ∷ zs) = 44
 
 -- Numbers as a line.
-unfoldable pub rowOf : List ℤ → List ℕ
-rowOf [] = []
-rowOf (z ∷ zs) = textOf z ++ (endsWith zs ∷ rowOf zs)
+unfoldable pub lineText : List ℤ → List ℕ
+lineText [] = []
+lineText (z ∷ zs) = textOf z ++ (endsWith zs ∷ lineText zs)
 
 -- "end," and "refused,", each with its numbers.
 unfoldable pub endOf : ℕ → ℕ → ℤ → List ℕ
-endOf samples symbols t = 101 ∷ 110 ∷ 100 ∷ 44 ∷ rowOf (pos samples ∷ pos symbols ∷ t ∷ [])
+endOf samples symbols t = 101 ∷ 110 ∷ 100 ∷ 44 ∷ lineText (pos samples ∷ pos symbols ∷ t ∷ [])
 
 unfoldable pub refusedOf : ℕ → ℕ → List ℕ
-refusedOf number line = 114 ∷ 101 ∷ 102 ∷ 117 ∷ 115 ∷ 101 ∷ 100 ∷ 44 ∷ rowOf (pos number ∷ pos line ∷ [])
+refusedOf number line = 114 ∷ 101 ∷ 102 ∷ 117 ∷ 115 ∷ 101 ∷ 100 ∷ 44 ∷ lineText (pos number ∷ pos line ∷ [])
 
 -- A text, where `room` bytes from a place on are in the buffer; else nothing.
 unfoldable pub roomed : ℕ → List ℕ → ℕ → List ℕ → List ℕ

@@ -1,15 +1,13 @@
-// A field: a whole number in decimal, read as one of four types.
+// A field: a whole number in decimal, read as one of the types of crates/kinds.
 ghost use mathlib.Core.Path.{_≡_};
-ghost use Prim.Native.Nat.{_≤_, _<_, _^_, min};
+ghost use Prim.Native.Nat.{_+_, _*_, _≤_, _<_, _^_, min};
 ghost use lib.ListN.{length, drop};
 ghost use lib.IntN.{pos};
 ghost use Rattle.text.specs.Number.{none, numeral};
-ghost use Rattle.text.specs.Field.{held, downOf, upOf, aboveZero, belowZero, fieldOf};
+ghost use Rattle.text.specs.Field.{keptDigits, downOf, upOf, aboveZero, belowZero, fieldOf};
 use crate::Digits;
 use crate::Field;
-use crate::I16;
-use crate::I32;
-use crate::U8;
+use crate::print;
 
 fn wide(x: u8) -> u64
     ensures { λ r. ⌜ r ≡ x ⌝ }
@@ -17,18 +15,19 @@ fn wide(x: u8) -> u64
     x as u64
 }
 
-// Once it reaches 2^40 a number stays there, however many digits follow.
-fn cut(x: u64) -> u64
-    ensures { λ r. ⌜ r ≡ min x (2 ^ 40) ⌝ }
+// With one digit more. Once it reaches 2^63 + 1 a number stays there, however many digits follow.
+fn with_digit(size: u64, digit: u64) -> u64
+    requires { ⌜ digit < 10 ⌝ }
+    ensures { λ r. ⌜ r ≡ min (size * 10 + digit) (2 ^ 63 + 1) ⌝ }
 {
-    if x < 0x100_0000_0000 {
-        return x;
+    if 922_337_203_685_477_580 < size {
+        return 0x8000_0000_0000_0001;
     }
-    0x100_0000_0000
+    size * 10 + digit
 }
 
 fn no_number() -> Digits
-    ensures { λ r. ⌜ r ≡ held none ⌝ }
+    ensures { λ r. ⌜ r ≡ keptDigits none ⌝ }
 {
     Digits {
         formed: false,
@@ -39,7 +38,7 @@ fn no_number() -> Digits
 // The number whose digits are the bytes from `at` to the end.
 fn digits_from(s: &[u8], at: usize) -> Digits
     requires { ⌜ at ≤ length (now s) ⌝ }
-    ensures { λ r. ⌜ r ≡ held (numeral (drop at (now (s .entry)))) ⌝ }
+    ensures { λ r. ⌜ r ≡ keptDigits (numeral (drop at (now (s .entry)))) ⌝ }
 {
     if s.len() <= at {
         return no_number();
@@ -60,7 +59,7 @@ fn digits_from(s: &[u8], at: usize) -> Digits
         if b'9' < b {
             return no_number();
         }
-        size = cut(size * 10 + wide(b - b'0'));
+        size = with_digit(size, wide(b - b'0'));
         i += 1;
     }
     Digits { formed: true, size }
@@ -70,29 +69,14 @@ fn digits_from(s: &[u8], at: usize) -> Digits
 fn down_of(kind: u8) -> u64
     ensures { λ r. ⌜ r ≡ downOf kind ⌝ }
 {
-    if kind == I16 {
-        return 0x8000;
-    }
-    if kind == I32 {
-        return 0x8000_0000;
-    }
-    0
+    print::magnitude(kinds::least_of(kind))
 }
 
 // How far a type reaches above zero.
 fn up_of(kind: u8) -> u64
     ensures { λ r. ⌜ r ≡ upOf kind ⌝ }
 {
-    if kind == U8 {
-        return 0xff;
-    }
-    if kind == I16 {
-        return 0x7fff;
-    }
-    if kind == I32 {
-        return 0x7fff_ffff;
-    }
-    0xffff_ffff
+    print::magnitude(kinds::most_of(kind))
 }
 
 fn bad(fault: u8) -> Field
@@ -102,7 +86,7 @@ fn bad(fault: u8) -> Field
 }
 
 fn above_zero(d: Digits, up: u64) -> Field
-    requires { ⌜ up < 2 ^ 40 ⌝ }
+    requires { ⌜ up < 2 ^ 63 ⌝ }
     ensures { λ r. ⌜ r ≡ aboveZero up d ⌝ }
 {
     if !d.formed {
@@ -118,7 +102,7 @@ fn above_zero(d: Digits, up: u64) -> Field
 }
 
 fn below_zero(d: Digits, down: u64) -> Field
-    requires { ⌜ down < 2 ^ 40 ⌝ }
+    requires { ⌜ down ≤ 2 ^ 63 ⌝ }
     ensures { λ r. ⌜ r ≡ belowZero down d ⌝ }
 {
     if !d.formed {
@@ -132,7 +116,7 @@ fn below_zero(d: Digits, down: u64) -> Field
     }
     Field {
         fault: 0,
-        value: 0 - (d.size as i64),
+        value: -1 - ((d.size - 1) as i64),
     }
 }
 

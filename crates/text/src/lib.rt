@@ -12,15 +12,6 @@ pub use print::put_row;
 // The most bytes that a line may have before its line feed.
 pub const LONGEST: usize = 1024;
 
-// The types that a field may have, by their numbers here.
-pub const U8: u8 = 0;
-
-pub const I16: u8 = 1;
-
-pub const I32: u8 = 2;
-
-pub const U32: u8 = 3;
-
 // Where the first line of some bytes ends.
 pub enum LineEnd {
     // With a line feed, after so many bytes.
@@ -31,7 +22,7 @@ pub enum LineEnd {
     Open,
 }
 
-// Digits: whether they are a number's, and the number, where it is at least 2^40 as 2^40. No type here holds that.
+// Digits: whether they are a number's, and the number, where it is more than 2^63 as 2^63 + 1. No type holds that.
 pub struct Digits {
     pub formed: bool,
     pub size: u64,

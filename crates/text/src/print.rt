@@ -5,7 +5,7 @@ ghost use lib.Dec.{ltb};
 ghost use Prim.Native.Nat.{_≤_, _<_, _+_, _*_};
 ghost use lib.ListN.{length};
 ghost use Rattle.text.specs.Number.{decimal, lastDigits, magnitudeOf, textOf};
-ghost use Rattle.text.specs.Print.{Put, roomed, rowOf, endOf, refusedOf};
+ghost use Rattle.text.specs.Print.{Put, roomed, lineText, endOf, refusedOf};
 
 // Of a number's bytes: a sign, 20 digits and what follows.
 const NUMBER: usize = 22;
@@ -53,7 +53,8 @@ fn put_digits(n: u64, out: &mut [u8], at: usize) -> usize
     at + k
 }
 
-fn magnitude(z: i64) -> u64
+// How far a number is from zero.
+pub(crate) fn magnitude(z: i64) -> u64
     ensures { λ r. ⌜ r ≡ magnitudeOf z ⌝ }
 {
     if 0 <= z {
@@ -98,7 +99,8 @@ fn behind(n: usize, count: usize) -> u8
 
 // Prints numbers as a line, or nothing where 22 bytes a number do not fit.
 pub fn put_row(values: &[i64], out: &mut [u8], at: usize) -> usize
-    ensures { λ r. ⌜ Put (roomed (22 * length (now (values .entry))) (now (out .entry)) at (rowOf (now (values .entry)))) (now (out .entry)) at r (now (out .exit)) ⌝ }
+    ensures { λ r. ⌜ Put (roomed (22 * length (now (values .entry))) (now (out .entry)) at (lineText (now (values .entry))))
+        (now (out .entry)) at r (now (out .exit)) ⌝ }
 {
     if out.len() < at {
         return at;

@@ -13,13 +13,12 @@ use borrow.Author.Needs.{needs}
 use borrow.Author.Tests.{not-true, not-false, ltb-true}
 use Rattle.arith.proofs.Order.{lt-pn, le-pn}
 use Rattle.params.specs.declared.Params.{Params}
-use Rattle.params.specs.Judge.{within}
-use Rattle.params.proofs.Rows.{and-left, and-right}
+use Rattle.arith.specs.Arith.{within}
+use Rattle.arith.proofs.Both.{and-left, and-right}
 use Rattle.registers.specs.declared.Pending.{Pending}
 use Rattle.registers.specs.declared.Registers.{Registers}
 use Rattle.registers.specs.Correct.{integratorEnd, corrected}
-use Rattle.registers.specs.Step.{one}
-use Rattle.registers.specs.Step.{canMakeSymbol, found, left, afterSymbol}
+use Rattle.registers.specs.Step.{one, canMakeSymbol, found, left, afterSymbol}
 use Rattle.registers.proofs.Integrator.{end-abs}
 use Rattle.arith.proofs.Tested.{between-abs}
 use Rattle.registers.proofs.Registers.after_symbol.Statement.{statement}

@@ -8,10 +8,9 @@ use lib.Signed.{leZ, ltZ}
 use mir.Syntax.{w32, w64}
 use mir.Val.{SFits}
 use Rattle.arith.proofs.Bits.{held, widens, widened}
-use Rattle.params.specs.Judge.{within}
+use Rattle.arith.specs.Arith.{within}
 use Rattle.registers.specs.Correct.{integratorEnd}
-use Rattle.registers.specs.Step.{one}
-use Rattle.registers.specs.Step.{canMakeSymbol}
+use Rattle.registers.specs.Step.{one, canMakeSymbol}
 use Rattle.arith.proofs.Widths.{in64}
 use Rattle.registers.proofs.Integrator.{end-fits, low-fits, end-is, low-test, high-test}
 use Rattle.arith.proofs.Tested.{with-next, and-next}

@@ -9,8 +9,7 @@ use mir.Val.{Fits, SFits, toZ}
 use borrow.Author.Needs.{needs}
 use Rattle.arith.proofs.Magnitude.{abs-add, abs-minus}
 use Rattle.arith.proofs.Bits.{sfit, back, held, whole}
-use Rattle.registers.specs.Step.{one}
-use Rattle.registers.specs.Step.{left}
+use Rattle.registers.specs.Step.{one, left}
 use Rattle.arith.proofs.Widths.{in64}
 use Rattle.registers.proofs.Registers.left.Statement.{statement}
 use Rattle.registers.proofs.Registers.left.Tie as tie

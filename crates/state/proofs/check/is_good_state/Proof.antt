@@ -13,7 +13,7 @@ use mir.Val.{SFits}
 use borrow.Author.Needs.{needs}
 use borrow.Author.Tests.{lt-ltb, le-ltb}
 use Rattle.arith.proofs.Bits.{held, widens, widened}
-use Rattle.params.specs.Judge.{within}
+use Rattle.arith.specs.Arith.{within}
 use Rattle.registers.specs.Step.{loopDelay}
 use Rattle.registers.specs.Correct.{integratorEnd}
 use Rattle.state.specs.Check.{goodState, outline}

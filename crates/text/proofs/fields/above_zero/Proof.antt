@@ -1,5 +1,5 @@
 -- `text::fields::above_zero` meets its contract: each answer is that of the tests which led to it.
--- A number up to `up` is far below 2^63, so that its bits read the same as a signed number.
+-- A number up to `up` is below 2^63, so that its bits read the same as a signed number.
 use mathlib.Core.Path.{refl, sym, ap, _∙_}
 use Prim.Native.Nat.{_^_, _<_}
 use native.Mathlib.Omega.{arith}

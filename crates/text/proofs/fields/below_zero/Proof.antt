@@ -1,24 +1,29 @@
 -- `text::fields::below_zero` meets its contract: each answer is that of the tests which led to it.
--- A number up to `down` is far below 2^63, so that its negative is exact.
-use mathlib.Core.Path.{_≡_, refl, sym, ap, _∙_, subst}
-use Prim.Native.Nat.{ℕ, zero, suc, _^_, _<_}
+-- A number from 1 to `down`, which is at most 2^63, less 1 is a number of 64 bits signed, and so is −1 less that.
+use mathlib.Core.Path.{_≡_, refl, sym, ap, _∙_}
+use Prim.Native.Nat.{ℕ, zero, suc, _-_, _^_, _≤_, _<_}
 use native.Mathlib.Omega.{arith}
-use lib.IntN.{ℤ, pos, negℤ, _-ℤ_, +ℤ-idl}
+use lib.IntN.{ℤ, pos, negsuc, negℤ, _-ℤ_}
 use mir.Syntax.{w64}
 use mir.Val.{toZ, SFits}
 use mir.Facts.{toZ-pos, toZ-ofZ}
 use borrow.Author.Needs.{needs}
 use borrow.Author.Tests.{not-true, not-false, lt-ltb, le-ltb, eq-eqb, ne-eqb}
+use Rattle.arith.proofs.Order.{flip-up}
 use Rattle.text.specs.Field.{holds}
 use Rattle.text.proofs.fields.below_zero.Statement.{statement}
 use Rattle.text.proofs.fields.below_zero.Tie as tie
 
-less : (n : ℕ) → n < 2 ^ 63 → pos 0 -ℤ toZ w64 n ≡ negℤ (pos n)
-less n h = ap (λ (z : ℤ). pos 0 -ℤ z) (toZ-pos w64 h) ∙ +ℤ-idl (negℤ (pos n))
+-- −1 less what is before n
+less : (n : ℕ) → 0 < n → n ≤ 2 ^ 63 → negsuc 0 -ℤ toZ w64 (n - 1) ≡ negℤ (pos n)
+less zero h k = absurd (omega arith)
+less (suc n) h k =
+    let e : suc n - 1 ≡ n = omega arith in
+    rw e (ap (λ (z : ℤ). negsuc 0 -ℤ z) (toZ-pos w64 {n = n} (omega arith)) ∙ flip-up n)
 
-fits-minus : (n : ℕ) → n < 2 ^ 63 → SFits w64 (negℤ (pos n))
-fits-minus zero h = record { sfits = h }
-fits-minus (suc n) h = record { sfits = omega arith }
+fits-minus : (n : ℕ) → 0 < n → n ≤ 2 ^ 63 → SFits w64 (negℤ (pos n))
+fits-minus zero h k = absurd (omega arith)
+fits-minus (suc n) h k = record { sfits = omega arith }
 
 bad-requires : tie.Need-bad-requires
 bad-requires c κs = search needs
@@ -46,20 +51,22 @@ returns-3 c =
     c .bad3 .ensures
     ∙ sym (rw (not-false (a .d .formed) (e .before .before .if1 .left), ne-eqb (a .d .size) 0 (e .if2 .left), lt-ltb (a .down) (a .d .size) (c .before .if3 .taken)) refl)
 
-cast-t4 : tie.Need-cast-t4
-cast-t4 c = search needs
+sub-t4 : tie.Need-sub-t4
+sub-t4 c = search needs
 
-sub-t5 : tie.Need-sub-t5
-sub-t5 c =
+cast-t5 : tie.Need-cast-t5
+cast-t5 c = search needs
+
+sub-t6 : tie.Need-sub-t6
+sub-t6 c =
     let n = c .before .before .before .before .before .before .before .args .d .size in
-    let l : n < 2 ^ 63 = omega arith in
-    subst (λ (z : ℤ). SFits w64 z) (sym (less n l)) (fits-minus n l)
+    rw (less n (omega arith) (omega arith)) (fits-minus n (omega arith) (omega arith))
 
 returns-4 : tie.Need-returns-4
 returns-4 c =
     let e = c .before .before .before in
     let a = e .before .before .before .before .args in
-    ap holds (toZ-ofZ (sub-t5 c) ∙ less (a .d .size) (omega arith))
+    ap holds (toZ-ofZ (sub-t6 c) ∙ less (a .d .size) (omega arith) (omega arith))
     ∙ sym (rw (not-false (a .d .formed) (e .before .before .if1 .left), ne-eqb (a .d .size) 0 (e .if2 .left), le-ltb (a .down) (a .d .size) (c .before .if3 .left)) refl)
 
 pub below-zero-spec : {M : Type 1} → statement M
@@ -72,6 +79,7 @@ below-zero-spec =
     returns-2
     bad-requires-3
     returns-3
-    cast-t4
-    sub-t5
+    sub-t4
+    cast-t5
+    sub-t6
     returns-4)

@@ -1,5 +1,5 @@
 -- `text::fields::digits_from` meets its contract: what is left of the digits, after the number so far, still says what all of them say.
--- The number is kept cut at 2^40, where cutting and one more digit may change places.
+-- The number is kept cut at 2^63 + 1, where cutting and one more digit may change places.
 use mathlib.Core.Path.{_≡_, sym, ap, _∙_}
 use mathlib.Core.Bool.{true}
 use Prim.Native.Nat.{ℕ, _+_, _-_, _*_, _^_, _≤_, min}
@@ -7,14 +7,14 @@ use native.Mathlib.Omega.{arith}
 use denote.Ref.{now}
 use lib.ListN.{length, drop, getD}
 use Rattle.text.specs.Number.{digitsAfter, numeral}
-use Rattle.text.specs.Field.{held}
+use Rattle.text.specs.Field.{keptDigits}
 use Rattle.text.proofs.Reading as R
 use Rattle.text.proofs.fields.digits_from.Statement.{statement}
 use Rattle.text.proofs.fields.digits_from.Tie as tie
 
 abbrev Inv-loop : tie.InvT-loop
 Inv-loop s at size₀ i₀ size i =
-    (i ≤ length s) × (size ≤ 2 ^ 40) × ((w : ℕ) × (size ≡ min w (2 ^ 40)) × (numeral (drop at s) ≡ digitsAfter w (drop i s)))
+    (i ≤ length s) × (size ≤ 2 ^ 63 + 1) × ((w : ℕ) × (size ≡ min w (2 ^ 63 + 1)) × (numeral (drop at s) ≡ digitsAfter w (drop i s)))
 
 abbrev μ-loop : tie.MeasureT-loop
 μ-loop s at size₀ i₀ size i = length s - i
@@ -25,7 +25,7 @@ no-number-requires c κs = tt
 returns : tie.Need-returns Inv-loop μ-loop
 returns c =
     let a = c .before .before .before .args in
-    c .no-number .ensures ∙ ap held (sym (R.empty (now (a .s)) (a .at) (c .before .if1 .taken)))
+    c .no-number .ensures ∙ ap keptDigits (sym (R.empty (now (a .s)) (a .at) (c .before .if1 .taken)))
 
 shared-slice-read-if2 : tie.Need-shared-slice-read-if2 Inv-loop μ-loop
 shared-slice-read-if2 c = omega arith
@@ -53,7 +53,7 @@ returns-3 : tie.Need-returns-3 Inv-loop μ-loop
 returns-3 c =
     let l = c .before .before .before .before in
     let s = now (l .before .before .before .before .before .args .s) in
-    c .no-number2 .ensures ∙ ap held (sym (l .loop .inv .2 .2 ∙ R.low s (l .loop .i) (l .loop .inv .2 .0) (omega arith) (c .before .if3 .taken)))
+    c .no-number2 .ensures ∙ ap keptDigits (sym (l .loop .inv .2 .2 ∙ R.low s (l .loop .i) (l .loop .inv .2 .0) (omega arith) (c .before .if3 .taken)))
 
 no-number-requires-3 : tie.Need-no-number-requires-3 Inv-loop μ-loop
 no-number-requires-3 c κs = tt
@@ -63,19 +63,13 @@ returns-4 c =
     let l = c .before .before .before .before .before in
     let s = now (l .before .before .before .before .before .args .s) in
     c .no-number3 .ensures
-    ∙ ap held (sym (l .loop .inv .2 .2 ∙ R.high s (l .loop .i) (l .loop .inv .2 .0) (omega arith) (c .before .before .if3 .left) (c .before .if4 .taken)))
-
-mul-cut : tie.Need-mul-cut Inv-loop μ-loop
-mul-cut c = omega arith
+    ∙ ap keptDigits (sym (l .loop .inv .2 .2 ∙ R.high s (l .loop .i) (l .loop .inv .2 .0) (omega arith) (c .before .before .if3 .left) (c .before .if4 .taken)))
 
 wide-requires : tie.Need-wide-requires Inv-loop μ-loop
 wide-requires c κs = tt
 
-add-cut : tie.Need-add-cut Inv-loop μ-loop
-add-cut c = omega arith
-
-cut-requires : tie.Need-cut-requires Inv-loop μ-loop
-cut-requires c κs = tt
+with-digit-requires : tie.Need-with-digit-requires Inv-loop μ-loop
+with-digit-requires c κs = omega arith
 
 add-i : tie.Need-add-i Inv-loop μ-loop
 add-i c = omega arith
@@ -91,8 +85,8 @@ loop-again c =
     let i = l .loop .i in
     let w = l .loop .inv .2 .0 in
     let d = getD s i 0 - 48 in
-    let got : c .cut .result ≡ min (w * 10 + d) (2 ^ 40) =
-    c .cut .ensures ∙ ap (λ (x : ℕ). min (l .loop .size * 10 + x) (2 ^ 40)) (c .before .wide .ensures) ∙ R.cut-again (l .loop .size) w d (l .loop .inv .2 .1) in
+    let got : c .with-digit .result ≡ min (w * 10 + d) (2 ^ 63 + 1) =
+    c .with-digit .ensures ∙ ap (λ (x : ℕ). min (l .loop .size * 10 + x) (2 ^ 63 + 1)) (c .before .wide .ensures) ∙ R.cut-again (l .loop .size) w d (l .loop .inv .2 .1) in
     (omega arith, omega arith, (w * 10 + d, got, l .loop .inv .2 .2 ∙ R.next s i w (omega arith) (e .before .if3 .left) (e .if4 .left)))
 
 returns-5 : tie.Need-returns-5 Inv-loop μ-loop
@@ -101,7 +95,7 @@ returns-5 c =
     let s = now (l .before .before .before .before .before .args .s) in
     let w = l .loop .inv .2 .0 in
     ap (λ (x : ℕ). record { formed = true; size = x }) (l .loop .inv .2 .1)
-    ∙ ap held (sym (l .loop .inv .2 .2 ∙ R.end s (l .loop .i) w (c .loop-test .left)))
+    ∙ ap keptDigits (sym (l .loop .inv .2 .2 ∙ R.end s (l .loop .i) w (c .loop-test .left)))
 
 pub digits-from-spec : {M : Type 1} → statement M
 digits-from-spec =
@@ -120,10 +114,8 @@ digits-from-spec =
     returns-3
     no-number-requires-3
     returns-4
-    mul-cut
     wide-requires
-    add-cut
-    cut-requires
+    with-digit-requires
     add-i
     loop-less
     loop-again

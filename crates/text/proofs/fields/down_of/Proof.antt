@@ -1,16 +1,20 @@
--- `text::fields::down_of` meets its contract: each answer is that of the tests which led to it.
-use borrow.Author.Tests.{eq-eqb, ne-eqb}
+-- `text::fields::down_of` meets its contract: it is the definition, word for word.
+use mathlib.Core.Path.{ap, _∙_}
+use mir.Syntax.{w64}
+use borrow.Author.Needs.{needs}
+use Rattle.arith.proofs.Bits.{held}
+use Rattle.text.specs.Number.{magnitudeOf}
 use Rattle.text.proofs.fields.down_of.Statement.{statement}
 use Rattle.text.proofs.fields.down_of.Tie as tie
 
+least-of-requires : tie.Need-least-of-requires
+least-of-requires c κs = search needs
+
+magnitude-requires : tie.Need-magnitude-requires
+magnitude-requires c κs = search needs
+
 returns : tie.Need-returns
-returns c = simp (eq-eqb _ _ (c .if1 .taken))
-
-returns-2 : tie.Need-returns-2
-returns-2 c = simp (ne-eqb _ _ (c .before .if1 .left), eq-eqb _ _ (c .if2 .taken))
-
-returns-3 : tie.Need-returns-3
-returns-3 c = simp (ne-eqb _ _ (c .before .if1 .left), ne-eqb _ _ (c .if2 .left))
+returns c = let end = c .before .least-of in c .magnitude .ensures ∙ ap magnitudeOf (held w64 (end .result) (end .ok) ∙ end .ensures)
 
 pub down-of-spec : {M : Type 1} → statement M
-down-of-spec = tie.close (tie.spec returns returns-2 returns-3)
+down-of-spec = tie.close (tie.spec least-of-requires magnitude-requires returns)

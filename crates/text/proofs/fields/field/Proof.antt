@@ -1,34 +1,42 @@
--- `text::fields::field` meets its contract: the sign decides which end counts, and a number that is cut at 2^40 says of it what the whole one says.
--- The ends of the four types are below 2^40.
+-- `text::fields::field` meets its contract: the sign decides which end counts, and a number that is cut at 2^63 + 1 says of it what the whole one says.
+-- No type's ends are further from zero than 2^63.
 use mathlib.Core.Path.{sym, ap, _∙_, subst}
 use mathlib.Core.Bool.{Bool, true, false, cond}
-use Prim.Native.Nat.{ℕ, _^_, _<_}
+use Prim.Native.Nat.{ℕ, _^_, _≤_, _<_}
 use native.Mathlib.Omega.{arith}
 use lib.Dec.{eqb}
+use lib.IntN.{pos, negsuc}
 use denote.Ref.{now}
 use borrow.Author.Needs.{needs}
+use Rattle.kinds.specs.Kinds.{u8, u32, i16, i32, i64, leastOf, mostOf}
 use Rattle.text.specs.declared.Digits.{Digits}
+use Rattle.text.specs.Number.{magnitudeOf}
 use Rattle.text.specs.Field.{downOf, upOf, aboveZero, belowZero, fieldOf}
 use Rattle.text.proofs.Reading as R
 use Rattle.text.proofs.fields.field.Statement.{statement}
 use Rattle.text.proofs.fields.field.Tie as tie
 
-down-small : (k : ℕ) → downOf k < 2 ^ 40
-down-small k = go (eqb k 1) (eqb k 2)
+down-small : (k : ℕ) → downOf k ≤ 2 ^ 63
+unfolding leastOf
+down-small k = go (eqb k i16) (eqb k i32) (eqb k i64)
   where
-    go : (a b : Bool) → cond a 32768 (cond b 2147483648 0) < 2 ^ 40
-    go true b = omega arith
-    go false true = omega arith
-    go false false = omega arith
-
-up-small : (k : ℕ) → upOf k < 2 ^ 40
-up-small k = go (eqb k 0) (eqb k 1) (eqb k 2)
-  where
-    go : (a b c : Bool) → cond a 255 (cond b 32767 (cond c 2147483647 4294967295)) < 2 ^ 40
+    go : (a b c : Bool) → magnitudeOf (cond a (negsuc 32767) (cond b (negsuc 2147483647) (cond c (negsuc 9223372036854775807) (pos 0)))) ≤ 2 ^ 63
     go true b c = omega arith
     go false true c = omega arith
     go false false true = omega arith
     go false false false = omega arith
+
+up-small : (k : ℕ) → upOf k < 2 ^ 63
+unfolding mostOf
+up-small k = go (eqb k u8) (eqb k u32) (eqb k i16) (eqb k i32)
+  where
+    go : (a b c d : Bool)
+        → magnitudeOf (cond a (pos 255) (cond b (pos 4294967295) (cond c (pos 32767) (cond d (pos 2147483647) (pos 9223372036854775807))))) < 2 ^ 63
+    go true b c d = omega arith
+    go false true c d = omega arith
+    go false false true d = omega arith
+    go false false false true = omega arith
+    go false false false false = omega arith
 
 bad-requires : tie.Need-bad-requires
 bad-requires c κs = search needs
@@ -49,7 +57,7 @@ down-of-requires : tie.Need-down-of-requires
 down-of-requires c κs = search needs
 
 below-zero-requires : tie.Need-below-zero-requires
-below-zero-requires c κs = subst (λ (n : ℕ). n < 2 ^ 40) (sym (c .down-of .ensures)) (down-small (c .before .before .before .before .before .before .args .kind))
+below-zero-requires c κs = subst (λ (n : ℕ). n ≤ 2 ^ 63) (sym (c .down-of .ensures)) (down-small (c .before .before .before .before .before .before .args .kind))
 
 returns-2 : tie.Need-returns-2
 unfolding fieldOf
@@ -69,7 +77,7 @@ up-of-requires : tie.Need-up-of-requires
 up-of-requires c κs = search needs
 
 above-zero-requires : tie.Need-above-zero-requires
-above-zero-requires c κs = subst (λ (n : ℕ). n < 2 ^ 40) (sym (c .up-of .ensures)) (up-small (c .before .before .before .before .before .before .args .kind))
+above-zero-requires c κs = subst (λ (n : ℕ). n < 2 ^ 63) (sym (c .up-of .ensures)) (up-small (c .before .before .before .before .before .before .args .kind))
 
 returns-3 : tie.Need-returns-3
 unfolding fieldOf
@@ -80,7 +88,7 @@ returns-3 c =
     c .above-zero .ensures
     ∙ ap (λ (n : ℕ). aboveZero n (d .before .digits-from2 .result)) (d .up-of .ensures)
     ∙ ap (λ (m : Digits). aboveZero (upOf (a .kind)) m) (d .before .digits-from2 .ensures)
-    ∙ R.without-minus (now (a .s)) (downOf (a .kind)) (upOf (a .kind)) (omega arith) (e .if2 .left) (up-small (a .kind))
+    ∙ R.without-minus (now (a .s)) (downOf (a .kind)) (upOf (a .kind)) (omega arith) (e .if2 .left) (omega (arith, up-small (a .kind)))
 
 pub field-spec : {M : Type 1} → statement M
 field-spec =

@@ -1,19 +1,20 @@
--- `text::fields::up_of` meets its contract: each answer is that of the tests which led to it.
-use borrow.Author.Tests.{eq-eqb, ne-eqb}
+-- `text::fields::up_of` meets its contract: it is the definition, word for word.
+use mathlib.Core.Path.{ap, _∙_}
+use mir.Syntax.{w64}
+use borrow.Author.Needs.{needs}
+use Rattle.arith.proofs.Bits.{held}
+use Rattle.text.specs.Number.{magnitudeOf}
 use Rattle.text.proofs.fields.up_of.Statement.{statement}
 use Rattle.text.proofs.fields.up_of.Tie as tie
 
+most-of-requires : tie.Need-most-of-requires
+most-of-requires c κs = search needs
+
+magnitude-requires : tie.Need-magnitude-requires
+magnitude-requires c κs = search needs
+
 returns : tie.Need-returns
-returns c = simp (eq-eqb _ _ (c .if1 .taken))
-
-returns-2 : tie.Need-returns-2
-returns-2 c = simp (ne-eqb _ _ (c .before .if1 .left), eq-eqb _ _ (c .if2 .taken))
-
-returns-3 : tie.Need-returns-3
-returns-3 c = simp (ne-eqb _ _ (c .before .before .if1 .left), ne-eqb _ _ (c .before .if2 .left), eq-eqb _ _ (c .if3 .taken))
-
-returns-4 : tie.Need-returns-4
-returns-4 c = simp (ne-eqb _ _ (c .before .before .if1 .left), ne-eqb _ _ (c .before .if2 .left), ne-eqb _ _ (c .if3 .left))
+returns c = let end = c .before .most-of in c .magnitude .ensures ∙ ap magnitudeOf (held w64 (end .result) (end .ok) ∙ end .ensures)
 
 pub up-of-spec : {M : Type 1} → statement M
-up-of-spec = tie.close (tie.spec returns returns-2 returns-3 returns-4)
+up-of-spec = tie.close (tie.spec most-of-requires magnitude-requires returns)

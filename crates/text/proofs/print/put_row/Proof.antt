@@ -15,23 +15,23 @@ use denote.Ref.{now}
 use borrow.Author.Needs.{needs}
 use Rattle.arith.proofs.Bits.{held}
 use Rattle.text.specs.Number.{textOf}
-use Rattle.text.specs.Print.{Put, rowOf}
+use Rattle.text.specs.Print.{Put, lineText}
 use Rattle.text.proofs.Writing as W
 use Rattle.text.proofs.print.put_row.Statement.{statement}
 use Rattle.text.proofs.print.put_row.Tie as tie
 
 -- A row of which n numbers are put: the place is p and the buffer `out`.
 abbrev Left : List ℤ → List ℕ → ℕ → List ℕ → ℕ → ℕ → Type 0
-Left zs out₀ at out p n = (at + length (rowOf zs) ≡ p + length (rowOf (drop n zs))) × (sets out₀ at (rowOf zs) ≡ sets out p (rowOf (drop n zs)))
+Left zs out₀ at out p n = (at + length (lineText zs) ≡ p + length (lineText (drop n zs))) × (sets out₀ at (lineText zs) ≡ sets out p (lineText (drop n zs)))
 
 step : (zs : List ℤ) (out₀ out : List ℕ) (at p n r : ℕ) (mid : List ℕ) → n < length zs → Put (textOf (getD zs n (pos 0))) out p r mid → Left zs out₀ at out p n
     → Left zs out₀ at (set mid r (cond (ltb (n + 1) (length zs)) 44 10)) (r + 1) (n + 1)
 step zs out₀ out at p n r mid h x l =
     let t = textOf (getD zs n (pos 0)) in
     let b : ℕ = cond (ltb (n + 1) (length zs)) 44 10 in
-    let rest = rowOf (drop (n + 1) zs) in
-    let e : rowOf (drop n zs) ≡ t ++ (b ∷ rest) = W.row-step zs n h in
-    let k : length (rowOf (drop n zs)) ≡ length t + suc (length rest) = ap (λ (u : List ℕ). length u) e ∙ length-append t (b ∷ rest) in (
+    let rest = lineText (drop (n + 1) zs) in
+    let e : lineText (drop n zs) ≡ t ++ (b ∷ rest) = W.row-step zs n h in
+    let k : length (lineText (drop n zs)) ≡ length t + suc (length rest) = ap (λ (u : List ℕ). length u) e ∙ length-append t (b ∷ rest) in (
       omega (arith, x .end, l .0, k),
       l .1
           ∙ ap (λ (u : List ℕ). sets out p u) e
@@ -51,7 +51,7 @@ abbrev μ-loop : tie.MeasureT-loop
 returns : tie.Need-returns Inv-loop μ-loop
 returns c =
     let a = c .before .before .args in
-    W.nothing-put (22 * length (now (a .values))) (a .at) (now (a .out)) (rowOf (now (a .values))) (omega arith)
+    W.nothing-put (22 * length (now (a .values))) (a .at) (now (a .out)) (lineText (now (a .values))) (omega arith)
 
 sub-if2 : tie.Need-sub-if2 Inv-loop μ-loop
 sub-if2 c = search needs
@@ -59,7 +59,7 @@ sub-if2 c = search needs
 returns-2 : tie.Need-returns-2 Inv-loop μ-loop
 returns-2 c =
     let a = c .before .before .before .args in
-    W.nothing-put (22 * length (now (a .values))) (a .at) (now (a .out)) (rowOf (now (a .values))) (omega arith)
+    W.nothing-put (22 * length (now (a .values))) (a .at) (now (a .out)) (lineText (now (a .values))) (omega arith)
 
 loop-holds : tie.Need-loop-holds Inv-loop μ-loop
 loop-holds c = (refl, omega arith, omega arith, (refl, refl))
@@ -121,10 +121,10 @@ returns-3 c =
     let a = l .before .before .before .before .args in
     let zs = now (a .values) in
     let h : length zs ≤ l .loop .n = c .loop-test .left in
-    let e : rowOf (drop (l .loop .n) zs) ≡ [] = W.row-end zs (l .loop .n) h in
-    let z : length (rowOf (drop (l .loop .n) zs)) ≡ 0 = ap (λ (u : List ℕ). length u) e in
+    let e : lineText (drop (l .loop .n) zs) ≡ [] = W.row-end zs (l .loop .n) h in
+    let z : length (lineText (drop (l .loop .n) zs)) ≡ 0 = ap (λ (u : List ℕ). length u) e in
     let fits : a .at + 22 * length zs ≤ length (now (a .out)) = omega arith in
-    rw (W.with-room (22 * length zs) (a .at) (now (a .out)) (rowOf zs) fits) (record {
+    rw (W.with-room (22 * length zs) (a .at) (now (a .out)) (lineText zs) fits) (record {
       end = omega (arith, l .loop .inv .3 .0, z);
       bytes = sym (l .loop .inv .3 .1 ∙ ap (λ (u : List ℕ). sets (l .loop .out) (l .loop .p) u) e);
     })

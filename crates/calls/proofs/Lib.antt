@@ -1,0 +1,3 @@
+-- Laws of the calls' answers.
+pub mod Answers
+pub mod Made

@@ -1,0 +1,249 @@
+-- `calls::block` meets its contract: it refuses in the definition's order, and then has touched nothing. Where nothing is refused, the block's state has
+-- places again (Answers, `left`), and its symbols can be counted.
+use Prim.Native.Nat.{ℕ, _^_, _≤_, _<_}
+use mathlib.Core.Path.{_≡_, refl, sym, ap, subst, _∙_}
+use mathlib.Core.Bool.{true}
+use mathlib.Core.List.{List}
+use native.Mathlib.Omega.{arith}
+use lib.ListN.{length}
+use lib.IntN.{ℤ, pos, negℤ}
+use mir.Syntax.{w64}
+use mir.Facts.{toZ-pos}
+use borrow.Author.Needs.{needs}
+use borrow.Author.Tests.{eq-eqb, ne-eqb, not-true, not-false}
+use Rattle.arith.proofs.Bits.{sfit}
+use Rattle.params.specs.declared.Params.{Params}
+use Rattle.params.specs.Judge.{Sheet, sheetOf, judged}
+use Rattle.state.specs.declared.Frontend.{Frontend}
+use Rattle.fixed.specs.Block.{Block, blockOf, processed}
+use Rattle.places.specs.Sheet.{sheetNumber}
+use Rattle.places.specs.declared.ReadState.{ReadState}
+use Rattle.places.specs.Answer.{Answer}
+use Rattle.places.specs.State.{stateFits, stateOf, numbersOf, hasPlaces, stateWritten}
+use Rattle.calls.specs.Calls.{firstNumber, sheetAt, stateNumber, BlockAnswer, blockAnswer}
+use Rattle.places.proofs.Readable.{state-long}
+use Rattle.places.proofs.Read.{Unread, Sheeted, sheet-refused, sheet-read, state-tested, state-read}
+use Rattle.calls.proofs.Answers.{first-is, then-is, state-number, no-state, minus-fits, minus-read, untouched, Left, left}
+use Rattle.calls.proofs.block.Statement.{statement}
+use Rattle.calls.proofs.block.Tie as tie
+
+-- ---- the answer, by its number
+
+module _ (l h g k state values out : List ℤ) where
+  abbrev sheet : Sheet
+  sheet = sheetAt l h g k
+
+  abbrev block : Block
+  block = blockOf sheet (stateOf state) values out
+
+  abbrev number : ℕ
+  number = firstNumber (sheetNumber l) (firstNumber (stateNumber sheet state) (block .refused .number))
+
+  refuses : {n : ℕ} {z : ℤ} {o : List ℤ} → (n ≡ 0 → ⊥) → n ≡ number → z ≡ negℤ (pos n) → o ≡ out
+      → _≡_ {A = BlockAnswer} (record { result = z; state = state; output = o }) (blockAnswer l h g k state values out)
+  unfolding blockAnswer
+  refuses h e r o = rw (ne-eqb number 0 (λ z. h (e ∙ z))) (λ i. record { result = (r ∙ ap (λ (n : ℕ). negℤ (pos n)) e) i; state = state; output = o i })
+
+  writes : {z : ℤ} {s o : List ℤ} → 0 ≡ number → z ≡ pos (block .count) → s ≡ numbersOf (block .state) → o ≡ block .output
+      → _≡_ {A = BlockAnswer} (record { result = z; state = s; output = o }) (blockAnswer l h g k state values out)
+  unfolding blockAnswer
+  writes e r s o = rw (eq-eqb number 0 (sym e)) (λ i. record { result = r i; state = s i; output = o i })
+
+-- ---- the sheet
+
+read-sheet-requires : tie.Need-read-sheet-requires
+read-sheet-requires c κs = search needs
+
+enum-known-number : tie.Need-enum-known-number
+enum-known-number c = search needs
+
+enum-known-p : tie.Need-enum-known-p
+enum-known-p c = search needs
+
+-- a sheet that cannot be read, and one that can
+unread : (c : tie.After-number) → Unread (sheetNumber (c .before .before .before .args .sheet .now)) (c .number .given .0 .0)
+unread c = sheet-refused _ (sym (c .before .before .read-sheet .ensures) ∙ c .number .given .1)
+
+readable : (c : tie.After-p) → Sheeted (c .before .before .before .args .sheet .now) (c .p .given .0 .0)
+readable c = sheet-read _ (sym (c .before .before .read-sheet .ensures) ∙ c .p .given .1)
+
+cast-result : tie.Need-cast-result
+cast-result c = search needs
+
+-- the number, as the machine holds it
+small : (c : tie.After-known-told) → c .before .number .given .0 .0 < 2 ^ 32
+small c = search needs
+
+sub-result : tie.Need-sub-result
+sub-result c = minus-fits _ (small c)
+
+returns-3 : tie.Need-returns-3
+returns-3 c =
+    let u = unread (c .before) in
+    refuses _ _ _ _ _ _ _ (u .some) (first-is _ _ (u .some) (u .is)) (minus-read _ (small c)) refl
+
+-- ---- places that are those of no state
+
+read-state-requires : tie.Need-read-state-requires
+read-state-requires c κs = search needs
+
+no-state-requires : tie.Need-no-state-requires
+no-state-requires c κs = search needs
+
+cast-result-2 : tie.Need-cast-result-2
+cast-result-2 c = search needs
+
+sub-result-2 : tie.Need-sub-result-2
+sub-result-2 c = minus-fits (c .no-state .result) (c .no-state .ok)
+
+same-length : tie.Need-same-length
+same-length c = search needs
+
+-- whether they fit, as it was read
+tested : (c : tie.After-read-state) → c .read-state .result .fits ≡ stateFits (c .before .before .before .before .before .before .args .state .now)
+tested c = ap (λ (r : ReadState). r .fits) (c .read-state .ensures) ∙ state-tested _
+
+returns : tie.Need-returns
+returns c =
+    let read = c .before .before .before in
+    let arm = read .before .before .before in
+    let a = arm .before .before .before .args in
+    let unfit = sym (tested read) ∙ not-true (read .read-state .result .fits) (c .before .if1 .taken) in
+    let is = c .no-state .ensures ∙ ap (λ (p : Params). firstNumber (judged (sheetOf p (a .h .now) (a .g .now) (a .k .now)) .number) 9) (readable arm .is) in
+    let none = no-state (sheetAt (a .sheet .now) (a .h .now) (a .g .now) (a .k .now)) (a .state .now) unfit is in
+    refuses _ _ _ _ _ _ _ (none .some) (then-is _ _ (readable arm .none) (first-is _ _ (none .some) (none .is)))
+    (minus-read (c .no-state .result) (c .no-state .ok)) refl
+
+-- ---- a state
+
+fitting : (c : tie.Else1) → stateFits (c .before .before .before .before .before .before .before .before .args .state .now) ≡ true
+fitting c = let read = c .before .before in sym (tested read) ∙ not-false (read .read-state .result .fits) (c .if1 .left)
+
+-- what the block answers
+module _ (c : tie.After-process) where
+  abbrev fits : tie.Else1
+  fits = c .before .before .before
+
+  abbrev given : tie.After-read-state
+  given = fits .before .before
+
+  abbrev arm : tie.After-p
+  arm = given .before .before .before
+
+  abbrev start : tie.Start
+  start = arm .before .before .before
+
+  abbrev done : Block
+  done = let a = start .args in block (a .sheet .now) (a .h .now) (a .g .now) (a .k .now) (a .state .now) (a .values .now) (a .out .now)
+
+  told : processed (c .process .result) (c .process .last .1 .1 .1 .1 .1 .1 .0) ≡ done
+  told =
+      let a = start .args in
+      let f = given .read-state .result .state in
+      let of-p : Params → Block = λ p. blockOf (sheetOf p (a .h .now) (a .g .now) (a .k .now)) f (a .values .now) (a .out .now) in
+      let of-f : Frontend → Block = λ f. blockOf (sheetAt (a .sheet .now) (a .h .now) (a .g .now) (a .k .now)) f (a .values .now) (a .out .now) in
+      c .process .ensures
+      ∙ ap of-p (readable arm .is)
+      ∙ ap of-f (ap (λ (r : ReadState). r .state) (given .read-state .ensures) ∙ state-read _ (fitting fits))
+
+-- its number, and with it the call's
+numbered : (c : tie.After-number2) → c .number2 .result ≡ done (c .before .before) .refused .number
+numbered c = c .number2 .ensures ∙ ap (λ (b : Block). b .refused .number) (told (c .before .before))
+
+called : (c : tie.After-number2)
+    → let a = start (c .before .before) .args in
+    c .number2 .result ≡ number (a .sheet .now) (a .h .now) (a .g .now) (a .k .now) (a .state .now) (a .values .now) (a .out .now)
+called c =
+    let p = c .before .before in
+    then-is _ _ (readable (arm p) .none) (then-is _ _ (state-number _ _ (fitting (fits p))) (numbered c))
+
+process-requires : tie.Need-process-requires
+process-requires c κs = search needs
+
+number-requires : tie.Need-number-requires
+number-requires c κs = search needs
+
+cast-result-3 : tie.Need-cast-result-3
+cast-result-3 c = search needs
+
+sub-result-3 : tie.Need-sub-result-3
+sub-result-3 c = minus-fits (c .before .number2 .result) (c .before .number2 .ok)
+
+same-length-2 : tie.Need-same-length-2
+same-length-2 c = search needs
+
+same-length-3 : tie.Need-same-length-3
+same-length-3 c = search needs
+
+returns-2 : tie.Need-returns-2
+returns-2 c =
+    let p = c .before .before .before in
+    refuses _ _ _ _ _ _ _ (c .if2 .taken) (called (c .before)) (minus-read (c .before .number2 .result) (c .before .number2 .ok))
+    (ap (λ (b : Block). b .output) (told p) ∙ untouched _ _ _ _ (λ z. c .if2 .taken (numbered (c .before) ∙ z)))
+
+-- ---- nothing is refused
+
+leaves : (c : tie.Else2) → Left (done (c .before .before .before))
+leaves c = left _ _ _ _ (sym (numbered (c .before)) ∙ c .if2 .left)
+
+write-state-requires : tie.Need-write-state-requires
+write-state-requires c κs = search needs
+
+-- the count, as a signed number
+counted : (c : tie.Else2) → c .before .before .before .process .result .count ≤ 9223372036854775807
+counted c = subst (λ (n : ℕ). n ≤ 9223372036854775807) (ap (λ (b : Block). b .count) (sym (told (c .before .before .before)))) (leaves c .counted)
+
+cast-result-4 : tie.Need-cast-result-4
+cast-result-4 c = sfit (omega (arith, counted (c .before .before .before .before .before)))
+
+same-length-4 : tie.Need-same-length-4
+same-length-4 c = search needs
+
+same-length-5 : tie.Need-same-length-5
+same-length-5 c = search needs
+
+-- a state whose counts have places is written to as many places as a state has
+written : (f : Frontend) (l : List ℤ) → length l ≡ 186 → hasPlaces f ≡ true → stateWritten f l .places ≡ numbersOf f
+unfolding stateWritten
+written f l long placed = rw (eq-eqb (length l) 186 long, placed) refl
+
+returns-4 : tie.Need-returns-4
+returns-4 c =
+    let right = c .before .before .before .before .before in
+    let p = right .before .before .before in
+    let l = start p .args .state .now in
+    writes _ _ _ _ _ _ _ (sym (right .if2 .left) ∙ called (right .before))
+    (toZ-pos w64 {n = p .process .result .count} (omega (arith, counted right)) ∙ ap (λ (b : Block). pos (b .count)) (told p))
+    (ap (λ (a : Answer). a .places) (c .before .before .write-state .ensures)
+    ∙ ap (λ (b : Block). stateWritten (b .state) l .places) (told p)
+    ∙ written (done p .state) l (state-long l (fitting (fits p))) (leaves right .placed))
+    (ap (λ (b : Block). b .output) (told p))
+
+pub block-spec : {M : Type 1} → statement M
+block-spec =
+    tie.close
+    (tie.spec
+    read-sheet-requires
+    enum-known-number
+    cast-result
+    sub-result
+    enum-known-p
+    read-state-requires
+    no-state-requires
+    cast-result-2
+    sub-result-2
+    same-length
+    returns
+    process-requires
+    number-requires
+    cast-result-3
+    sub-result-3
+    same-length-2
+    same-length-3
+    returns-2
+    write-state-requires
+    cast-result-4
+    returns-3
+    same-length-4
+    same-length-5
+    returns-4)

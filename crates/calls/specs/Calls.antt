@@ -1,0 +1,99 @@
+-- What each call of the C interface answers, for any places, banks and buffers. The answers are those of judging, starting, the block, reading, the offset,
+-- float samples and a design with its sheet; ours is only how they cross: refusals by number alone, sheets and states as places, and no buffer touched by a
+-- call that is refused.
+-- (Document 01: 'The sheet', 'A sample's way', 'A block', 'Around the path'.)
+use Prim.Native.Nat.{ℕ, _%_}
+use mathlib.Core.Bool.{cond}
+use mathlib.Core.List.{List, _∷_, _++_, map}
+use lib.Dec.{eqb, leb}
+use lib.ListN.{length, drop}
+use lib.IntN.{ℤ, pos, negℤ}
+use lib.Ieee.{Float}
+use Rattle.params.specs.declared.Params.{Params}
+use Rattle.params.specs.Judge.{Sheet, sheetOf, judged}
+use Rattle.params.specs.Offset.{Parts, offsetOf}
+use Rattle.input.specs.Input.{componentOf}
+use Rattle.design.specs.Refusal.{Answer as Designed, accepted, refused}
+use Rattle.design.specs.Design.{sheetOfDesign}
+use Rattle.state.specs.Start.{Start, startOf}
+use Rattle.fixed.specs.Block.{Block, blockOf}
+use Rattle.state.specs.Read.{Read, readOf}
+use Rattle.places.specs.Answer.{Answer, answered}
+use Rattle.places.specs.Sheet.{sheetNumber, paramsAt, sheetNumbers}
+use Rattle.places.specs.Rates.{designNumber, designAt, gainsAt}
+use Rattle.places.specs.State.{stateFits, stateOf, numbersOf}
+
+-- The first of two numbers of refusals, 0 standing for none.
+abbrev pub firstNumber : ℕ → ℕ → ℕ
+firstNumber a b = cond (eqb a 0) b a
+
+-- The sheet that 17 places and the banks say.
+abbrev pub sheetAt : List ℤ → List ℤ → List ℤ → List ℤ → Sheet
+sheetAt l h g k = sheetOf (paramsAt l) h g k
+
+-- Judging: 18 and 19, then 1 to 8.
+unfoldable pub judgeNumber : List ℤ → List ℤ → List ℤ → List ℤ → ℕ
+judgeNumber l h g k = firstNumber (sheetNumber l) (judged (sheetAt l h g k) .number)
+
+-- Starting: 18 and 19, 1 to 8, then 9 where there are not 186 places for the state.
+unfoldable pub startAnswer : List ℤ → List ℤ → List ℤ → List ℤ → List ℤ → Answer
+startAnswer l h g k state =
+    let a : Start = startOf (sheetAt l h g k) in
+    answered (firstNumber (sheetNumber l) (firstNumber (a .refused .number) (cond (eqb (length state) 186) 0 9))) (numbersOf (a .state)) state
+
+-- 9 of places that are those of no state, after 1 to 8.
+unfoldable pub stateNumber : Sheet → List ℤ → ℕ
+stateNumber s state = cond (stateFits state) 0 (firstNumber (judged s .number) 9)
+
+-- What a block answers, and what it leaves of the state's places and in the output.
+pub record BlockAnswer : Type 0 where
+  pub result : ℤ
+  pub state : List ℤ
+  pub output : List ℤ
+
+-- A block: 18 and 19, 1 to 8, 9, 10 to 12. It answers how many symbols it wrote, or the refusal's number below zero.
+unfoldable pub blockAnswer : List ℤ → List ℤ → List ℤ → List ℤ → List ℤ → List ℤ → List ℤ → BlockAnswer
+blockAnswer l h g k state values out =
+    let s : Sheet = sheetAt l h g k in
+    let b : Block = blockOf s (stateOf state) values out in
+    let n : ℕ = firstNumber (sheetNumber l) (firstNumber (stateNumber s state) (b .refused .number)) in
+    cond (eqb n 0)
+    (record { result = pos (b .count); state = numbersOf (b .state); output = b .output })
+    (record { result = negℤ (pos n); state = state; output = out })
+
+-- Reading: 18 and 19, 1 to 8, 9, then 11 where there are fewer than three places for period, gain and symbols.
+unfoldable pub readAnswer : List ℤ → List ℤ → List ℤ → List ℤ → List ℤ → List ℤ → Answer
+readAnswer l h g k state places =
+    let s : Sheet = sheetAt l h g k in
+    let a : Read = readOf s (stateOf state) in
+    answered (firstNumber (sheetNumber l) (firstNumber (stateNumber s state) (firstNumber (a .refused .number) (cond (leb 3 (length places)) 0 11))))
+    (pos (a .period) ∷ pos (a .gain) ∷ pos (a .symbols) ∷ drop 3 places) places
+
+-- The offset of a period: 18 and 19, 1 to 8, 13, then 11 where there is no place for it.
+unfoldable pub offsetAnswer : List ℤ → List ℤ → List ℤ → List ℤ → ℕ → List ℤ → Answer
+offsetAnswer l h g k period places =
+    let a : Parts = offsetOf (sheetAt l h g k) period in
+    answered (firstNumber (sheetNumber l) (firstNumber (a .refused .number) (cond (leb 1 (length places)) 0 11))) (a .parts ∷ drop 1 places) places
+
+-- Float samples: 10 for an odd number of floats, then 11 where there are fewer places than floats. Each float is a component by itself, and goes to the
+-- place of its number.
+unfoldable pub sampleAnswer : List Float → List ℤ → Answer
+sampleAnswer floats places =
+    answered (firstNumber (cond (eqb (length floats % 2) 0) 0 10) (cond (leb (length floats) (length places)) 0 11))
+    (map componentOf floats ++ drop (length floats) places) places
+
+-- The number of a design's answer, 0 for a sheet.
+abbrev pub refusedBy : Designed Params → ℕ
+refusedBy (accepted p) = 0
+refusedBy (refused r) = r .number
+
+-- What it leaves in places: its sheet in the first 17, and all as it was where there is no sheet.
+abbrev pub writtenBy : Designed Params → List ℤ → List ℤ
+writtenBy (accepted p) places = sheetNumbers p ++ drop 17 places
+writtenBy (refused r) places = places
+
+-- A design and its sheet: 18 and 19, 14 to 17, 1 to 8, then 11 where there are fewer than 17 places for the sheet.
+unfoldable pub designAnswer : List Float → List ℤ → List ℤ → List ℤ → List ℤ → List ℤ → Answer
+designAnswer rates fields h g k places =
+    let a : Designed Params = sheetOfDesign (designAt rates fields) (gainsAt fields) h g k in
+    answered (firstNumber (designNumber rates fields) (firstNumber (refusedBy a) (cond (leb 17 (length places)) 0 11))) (writtenBy a places) places

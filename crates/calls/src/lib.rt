@@ -1,0 +1,202 @@
+// What each call of the interface to C answers: judging, starting, the block, reading, the offset, float samples and designs, over numbers and lent slices.
+//
+// No call asks anything of its caller: whatever is lent, it answers, with a refusal's number where something is wrong, and then it has touched no place.
+// 18 and 19 refuse a sheet or a design that cannot be read, before 1 to 8 and 14 to 17; places that are those of no state are refused by 9, after 1 to 8.
+use design::SheetVerdict;
+use params::Params;
+use places::ReadDesign;
+use places::ReadSheet;
+ghost use mathlib.Core.Path.{_≡_};
+ghost use Rattle.params.specs.Judge.{sheetOf, judged};
+ghost use Rattle.calls.specs.Calls.{firstNumber, judgeNumber, startAnswer, blockAnswer, readAnswer, offsetAnswer, sampleAnswer, designAnswer};
+
+// The number of the sheet's first fault, or 0 (document 01: judging).
+pub fn judge(sheet: &[i64], h: &[i32], g: &[i32], k: &[i32]) -> u32
+    ensures { λ r. ⌜ r ≡ judgeNumber (now (sheet .entry)) (now (h .entry)) (now (g .entry)) (now (k .entry)) ⌝ }
+{
+    match places::read_sheet(sheet) {
+        ReadSheet::Refused(number) => number,
+        ReadSheet::Sheet(p) => {
+            let verdict = p.validate(h, g, k);
+            verdict.number()
+        }
+    }
+}
+
+// Writes the fresh state of a sheet (document 01: starting).
+pub fn start(sheet: &[i64], h: &[i32], g: &[i32], k: &[i32], state: &mut [i64]) -> u32
+    ensures { λ r. ⌜ record { number = r; places = now (state .exit) }
+        ≡ startAnswer (now (sheet .entry)) (now (h .entry)) (now (g .entry)) (now (k .entry)) (now (state .entry)) ⌝ }
+{
+    match places::read_sheet(sheet) {
+        ReadSheet::Refused(number) => number,
+        ReadSheet::Sheet(p) => {
+            let started = fixed::Frontend::new(p, h, g, k);
+            let verdict = started.verdict;
+            let refused = verdict.number();
+            if refused != 0 {
+                return refused;
+            }
+            let fresh = started.state;
+            places::write_state(fresh, &mut *state)
+        }
+    }
+}
+
+// What refuses a call whose state's places are those of no state: 1 to 8, then 9.
+fn no_state(p: Params, h: &[i32], g: &[i32], k: &[i32]) -> u32
+    ensures { λ r. ⌜ r ≡ firstNumber (judged (sheetOf p (now (h .entry)) (now (g .entry)) (now (k .entry))) .number) 9 ⌝ }
+{
+    let verdict = p.validate(h, g, k);
+    let refused = verdict.number();
+    if refused != 0 {
+        return refused;
+    }
+    9
+}
+
+// Takes a block of samples, I before Q, from the state on; writes 20 places a symbol and the state after it (document 01: a block). Answers
+// how many symbols it wrote, or the refusal's number below zero.
+pub fn block(
+    sheet: &[i64],
+    h: &[i32],
+    g: &[i32],
+    k: &[i32],
+    state: &mut [i64],
+    values: &[i16],
+    out: &mut [i64],
+) -> i64
+    ensures { λ r. ⌜ record { result = r; state = now (state .exit); output = now (out .exit) }
+        ≡ blockAnswer (now (sheet .entry)) (now (h .entry)) (now (g .entry)) (now (k .entry))
+        (now (state .entry)) (now (values .entry)) (now (out .entry)) ⌝ }
+{
+    match places::read_sheet(sheet) {
+        ReadSheet::Refused(number) => 0 - number as i64,
+        ReadSheet::Sheet(p) => {
+            let read = places::read_state(&*state);
+            if !read.fits {
+                return 0 - no_state(p, h, g, k) as i64;
+            }
+            let before = read.state;
+            let done = before.process(p, h, g, k, values, &mut *out);
+            let verdict = done.verdict;
+            let refused = verdict.number();
+            if refused != 0 {
+                return 0 - refused as i64;
+            }
+            // It writes: there are 186 places, and 12 refuses the block after which a count has none.
+            let after = done.state;
+            places::write_state(after, &mut *state);
+            done.count as i64
+        }
+    }
+}
+
+// Writes period, gain and symbols of a state to three places (document 01: reading).
+pub fn read(
+    sheet: &[i64],
+    h: &[i32],
+    g: &[i32],
+    k: &[i32],
+    state: &[i64],
+    answer: &mut [i64],
+) -> u32
+    ensures { λ r. ⌜ record { number = r; places = now (answer .exit) }
+        ≡ readAnswer (now (sheet .entry)) (now (h .entry)) (now (g .entry)) (now (k .entry)) (now (state .entry)) (now (answer .entry)) ⌝ }
+{
+    match places::read_sheet(sheet) {
+        ReadSheet::Refused(number) => number,
+        ReadSheet::Sheet(p) => {
+            let read = places::read_state(state);
+            if !read.fits {
+                return no_state(p, h, g, k);
+            }
+            let reading = read.state.read(p, h, g, k);
+            let verdict = reading.verdict;
+            let refused = verdict.number();
+            if refused != 0 {
+                return refused;
+            }
+            if answer.len() < 3 {
+                return 11;
+            }
+            answer[0] = reading.period as i64;
+            answer[1] = reading.gain as i64;
+            answer[2] = reading.symbols as i64;
+            0
+        }
+    }
+}
+
+// Writes the offset of a period to one place (document 01: the offset).
+pub fn offset(
+    sheet: &[i64],
+    h: &[i32],
+    g: &[i32],
+    k: &[i32],
+    period: u32,
+    answer: &mut [i64],
+) -> u32
+    ensures { λ r. ⌜ record { number = r; places = now (answer .exit) }
+        ≡ offsetAnswer (now (sheet .entry)) (now (h .entry)) (now (g .entry)) (now (k .entry)) period (now (answer .entry)) ⌝ }
+{
+    match places::read_sheet(sheet) {
+        ReadSheet::Refused(number) => number,
+        ReadSheet::Sheet(p) => {
+            let offset = p.offset(h, g, k, period);
+            let verdict = offset.verdict;
+            let refused = verdict.number();
+            if refused != 0 {
+                return refused;
+            }
+            if answer.len() < 1 {
+                return 11;
+            }
+            let parts = offset.parts;
+            answer[0] = parts;
+            0
+        }
+    }
+}
+
+// Takes the components of float samples, I before Q, as the front end does (document 01: a float sample). Value n is made of float n.
+pub fn sample(floats: &[f32], values: &mut [i16]) -> u32
+    ensures { λ r. ⌜ record { number = r; places = now (values .exit) } ≡ sampleAnswer (now (floats .entry)) (now (values .entry)) ⌝ }
+{
+    if floats.len() % 2 != 0 {
+        return 10;
+    }
+    if values.len() < floats.len() {
+        return 11;
+    }
+    let mut n: usize = 0;
+    while n < floats.len() {
+        values[n] = input::component(floats[n]);
+        n += 1;
+    }
+    0
+}
+
+// Writes the sheet of a design to the first 17 places (document 01: design and judge together). The design comes as five rates and eight fields.
+pub fn design(
+    rates: &[f64],
+    fields: &[i64],
+    h: &[i32],
+    g: &[i32],
+    k: &[i32],
+    sheet: &mut [i64],
+) -> u32
+    ensures { λ r. ⌜ record { number = r; places = now (sheet .exit) }
+        ≡ designAnswer (now (rates .entry)) (now (fields .entry)) (now (h .entry)) (now (g .entry)) (now (k .entry)) (now (sheet .entry)) ⌝ }
+{
+    match places::read_design(rates, fields) {
+        ReadDesign::Refused(number) => number,
+        ReadDesign::Design { design, gains } => {
+            let verdict = design.params(gains, h, g, k);
+            match verdict {
+                SheetVerdict::Refused(e) => e.number(),
+                SheetVerdict::Accepted(p) => places::write_sheet(p, &mut *sheet),
+            }
+        }
+    }
+}

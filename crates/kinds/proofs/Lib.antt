@@ -1,0 +1,3 @@
+-- Laws of kinds: which numbers fit which types, and places that were looked at.
+pub mod OfKind
+pub mod Readable

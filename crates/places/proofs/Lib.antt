@@ -1,0 +1,9 @@
+-- Laws of sheets, states and designs as places.
+pub mod Readable
+pub mod Read
+pub mod Answered
+pub mod Placed
+pub mod Pairs
+pub mod Widths
+pub mod Crossing
+pub mod Sheets
