@@ -1,2 +1,3 @@
--- Laws of lists and of tests that the proofs share.
+-- Laws of lists, of tests and of reading that the proofs share.
 mod Laws
+mod Reading
