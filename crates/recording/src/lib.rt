@@ -3,7 +3,7 @@
 mod lines;
 mod places;
 
-pub use lines::next;
+pub use lines::next_line;
 pub use places::keep_pair;
 pub use places::keep_row;
 

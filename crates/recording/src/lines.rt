@@ -22,7 +22,7 @@ fn end(unread: usize, line: u64) -> Next
 }
 
 // What the bytes that are read and not used yet begin with, at this line; `over` where nothing is behind them.
-pub fn next(bytes: &[u8], over: bool, line: u64) -> Next
+pub fn next_line(bytes: &[u8], over: bool, line: u64) -> Next
     ensures { λ r. ⌜ r ≡ nextOf (now (bytes .entry)) over line ⌝ }
 {
     match text::line_end(bytes) {
