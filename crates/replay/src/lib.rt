@@ -1,8 +1,9 @@
 // What the replay programs read and count: the oracle's answers, as rows of decimal numbers separated by commas.
 //
-// rows.rt has the numbers of a row, answer.rt the refusals and banks.rt the banks that they stand for.
+// rows.rt has the numbers of a row; bits.rt the floats, answer.rt the refusals and banks.rt the banks that they stand for.
 pub mod answer;
 pub mod banks;
+pub mod bits;
 pub mod rows;
 
 ghost use mathlib.Core.Path.{_≡_};

@@ -1,10 +1,10 @@
--- `floats::f32_from_bits` meets its contract: its test finds the patterns of a NaN (Patterns), for which it answers one NaN.
+-- `replay::bits::f32_from_bits` meets its contract: its test finds the patterns of a NaN (Patterns), for which it answers one NaN.
 -- Of every other pattern the language's own reading is the definition's.
 use lib.Ieee.{binary32}
 use borrow.Author.Needs.{needs}
-use Rattle.floats.proofs.Patterns.{nan-above, no-nan-below}
-use Rattle.floats.proofs.f32_from_bits.Statement.{statement}
-use Rattle.floats.proofs.f32_from_bits.Tie as tie
+use Rattle.replay.proofs.Patterns.{nan-above, no-nan-below}
+use Rattle.replay.proofs.bits.f32_from_bits.Statement.{statement}
+use Rattle.replay.proofs.bits.f32_from_bits.Tie as tie
 
 returns : tie.Need-returns
 returns c = nan-above binary32 (c .before .args .bits) (c .if1 .taken)

@@ -1,13 +1,13 @@
--- `floats::f64_to_bits` meets its contract: only a NaN differs from itself, and its pattern is the definition's.
+-- `replay::bits::f64_to_bits` meets its contract: only a NaN differs from itself, and its pattern is the definition's.
 -- Of every other float the language's own pattern is the definition's.
 use mathlib.Core.Path.{_≡_, refl, sym, ap, _∙_, subst}
 use lib.Dec.{T}
 use lib.Ieee.{nan, binary64, toBits}
 use lib.Ieee.Compare.{differs-from-itself}
 use borrow.Author.Needs.{needs}
-use Rattle.floats.proofs.Patterns.{no-nan}
-use Rattle.floats.proofs.f64_to_bits.Statement.{statement}
-use Rattle.floats.proofs.f64_to_bits.Tie as tie
+use Rattle.replay.proofs.Patterns.{no-nan}
+use Rattle.replay.proofs.bits.f64_to_bits.Statement.{statement}
+use Rattle.replay.proofs.bits.f64_to_bits.Tie as tie
 
 pattern : 0x7ff8_0000_0000_0000 ≡ toBits binary64 nan
 unfolding toBits
