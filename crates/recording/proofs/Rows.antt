@@ -1,4 +1,4 @@
--- A row put into places from one on, a number at a time: what stands in the places and what is left of the row give the same as all of the row in the beginning.
+-- A row put into places from one on, a number at a time: with what is left of it the places become what they become with all of the row.
 -- Past the last place nothing changes.
 use Prim.Native.Nat.{ℕ, suc, _+_, _≤_, _<_, min}
 use mathlib.Core.Path.{_≡_, refl, sym, ap, _∙_}
@@ -19,9 +19,9 @@ module _ {A : Type 0} where
 
   pub sets-least : (l : List A) (i : ℕ) (vs : List A) → sets l i vs ≡ sets l (min i (length l)) vs
   sets-least l i vs = elim (decLe i (length l)) [
-      | yes h ↦ let e : i ≡ min i (length l) = omega arith in ap (λ (k : ℕ). sets l k vs) e
-      | no h ↦ sets-out l i vs (omega arith) ∙ sym (sets-out l (min i (length l)) vs (omega arith))
-      ]
+    | yes h ↦ let e : i ≡ min i (length l) = omega arith in ap (λ (k : ℕ). sets l k vs) e
+    | no h ↦ sets-out l i vs (omega arith) ∙ sym (sets-out l (min i (length l)) vs (omega arith))
+  ]
 
 module _ {A B : Type 0} (f : A → B) (row : List A) (i : ℕ) where
   -- the next number
@@ -36,6 +36,6 @@ module _ {A B : Type 0} (f : A → B) (row : List A) (i : ℕ) where
   -- the last: none is left, or no place
   pub sets-last : (bank : List B) (at n : ℕ) → min (length row) n ≤ i → length bank ≤ at + n → sets bank (at + i) (map f (drop i row)) ≡ bank
   sets-last bank at n h p = elim (decLe (length row) i) [
-      | yes l ↦ ap (λ (r : List A). sets bank (at + i) (map f r)) (drop-of-length-le row l)
-      | no l ↦ sets-out bank (at + i) (map f (drop i row)) (omega arith)
-      ]
+    | yes l ↦ ap (λ (r : List A). sets bank (at + i) (map f r)) (drop-of-length-le row l)
+    | no l ↦ sets-out bank (at + i) (map f (drop i row)) (omega arith)
+  ]

@@ -52,12 +52,13 @@ read c row = record { cursor = c; row = row }
 unfoldable pub endsNumber : ℕ → Bool
 endsNumber b = eqb b 44 || eqb b 10
 
--- With one more byte. A number's end sets its place in the row, where there is one, and the columns are counted modulo 2^64; with the line feed the row has ended.
+-- With one more byte. A number's end sets its place in the row, where there is one, and counts the column, modulo 2^64. With the line feed the row has ended.
 unfoldable pub withByte : Read → ℕ → Read
 withByte s b =
     let c : Cursor = s .cursor in
     cond (endsNumber b)
-    (read (record { at = c .at + 1; column = (c .column + 1) % 2 ^ 64; number = noNumber; ended = eqb b 10 }) (set (s .row) (c .column) (signedValue (c .number))))
+    (read (record { at = c .at + 1; column = (c .column + 1) % 2 ^ 64; number = noNumber; ended = eqb b 10 })
+    (set (s .row) (c .column) (signedValue (c .number))))
     (read (record { at = c .at + 1; column = c .column; number = digitAdded (c .number) b; ended = false }) (s .row))
 
 -- With the bytes up to the first line feed, or with all where there is none.

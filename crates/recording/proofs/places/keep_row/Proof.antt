@@ -70,10 +70,11 @@ loop-again c =
     let z = getD (a .row .now) (l .loop .i) (pos 0) in
     let one : c .narrow-i32 .result ≡ narrowI32 z = simp (held w64 z (c .before .narrow-i32-arg .given)) at (c .narrow-i32 .ensures) in
     let v = held w32 (c .narrow-i32 .result) (c .narrow-i32 .ok) ∙ one in
-    let next = sets-next narrowI32 (a .row .now) (l .loop .i) (pos 0) (l .loop .bank) start (omega arith) in (
+    let next = sets-next narrowI32 (a .row .now) (l .loop .i) (pos 0) (l .loop .bank) start (omega arith) in
+    let left = map narrowI32 (drop (l .loop .i + 1) (a .row .now)) in (
       simp length-set (omega arith),
       omega arith,
-      l .loop .inv .2 ∙ next ∙ ap (λ (x : ℤ). sets (set (l .loop .bank) (start + l .loop .i) x) (start + (l .loop .i + 1)) (map narrowI32 (drop (l .loop .i + 1) (a .row .now)))) (sym v),
+      l .loop .inv .2 ∙ next ∙ ap (λ (x : ℤ). sets (set (l .loop .bank) (start + l .loop .i) x) (start + (l .loop .i + 1)) left) (sym v),
     )
 
 add-result : tie.Need-add-result Inv-loop μ-loop

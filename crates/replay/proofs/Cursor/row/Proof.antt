@@ -6,11 +6,11 @@ use mathlib.Core.Bool.{true, cond}
 use mathlib.Core.List.{[]}
 use mathlib.Core.Logic.{⊎-elim}
 use native.Mathlib.Omega.{arith}
-use lib.ListN.{length, drop, length-set, drop-of-length-le}
+use lib.ListN.{length, getD, drop, length-set, drop-of-length-le}
 use denote.Ref.{now}
 use borrow.Author.Needs.{needs}
 use borrow.Author.Tests.{eq-eqb, ne-eqb}
-use Rattle.replay.specs.Rows.{signedValue, read, withBytes, rowRead}
+use Rattle.replay.specs.Rows.{signedValue, endsNumber, read, withBytes, rowRead}
 use Rattle.replay.proofs.Reading.{within, row-ends, number-ends, goes-on, none-left}
 use Rattle.replay.proofs.Cursor.row.Statement.{statement}
 use Rattle.replay.proofs.Cursor.row.Tie as tie
@@ -26,13 +26,21 @@ abbrev μ-loop : tie.MeasureT-loop
 -- the row that the loop begins with is the one that the cursor stands in, or a new one
 begins : (c : tie.At-loop Inv-loop μ-loop) →
     let a = c .before .before .before .before .args in
-    rowRead (a .self) (now (a .bytes)) (now (a .row)) ≡ withBytes (read (within (a .self .at) (c .before .if1 .column) (a .self .number)) (now (a .row))) (drop (a .self .at) (now (a .bytes)))
+    rowRead (a .self) (now (a .bytes)) (now (a .row))
+    ≡ withBytes (read (within (a .self .at) (c .before .if1 .column) (a .self .number)) (now (a .row))) (drop (a .self .at) (now (a .bytes)))
 unfolding rowRead
 begins c =
     let a = c .before .before .before .before .args in
     let column : c .before .if1 .column ≡ cond (a .self .ended) 0 (a .self .column) =
     ⊎-elim (λ w. simp (w .0 .taken) (w .1)) (λ w. simp (w .0 .left) (w .1)) (c .before .if1 .came) in
     λ i. withBytes (read (within (a .self .at) (sym column i) (a .self .number)) (now (a .row))) (drop (a .self .at) (now (a .bytes)))
+
+-- behind a number that has ended: where the turn began, and the test of the byte
+abbrev turn : tie.After-new Inv-loop μ-loop → tie.At-loop Inv-loop μ-loop
+turn c = c .before .before .before .before .before .before .before .before .before
+
+ended : (c : tie.After-new Inv-loop μ-loop) → endsNumber (getD (turn c .before .before .before .before .args .bytes .now) (turn c .loop .at) 0) ≡ true
+ended c = sym (c .before .before .before .before .before .before .ends-number .ensures) ∙ c .before .before .before .before .before .if2 .taken
 
 loop-holds : tie.Need-loop-holds Inv-loop μ-loop
 loop-holds c = (omega arith, omega arith, refl, refl)
@@ -60,13 +68,14 @@ same-length c = search needs
 
 returns : tie.Need-returns Inv-loop μ-loop
 returns c =
-    let l = c .before .before .before .before .before .before .before .before .before .before in
-    let a = l .before .before .before .before .args in
-    let t = eq-eqb _ _ (c .if3 .taken) in
-    let e = sym (c .before .before .before .before .before .before .before .ends-number .ensures) ∙ c .before .before .before .before .before .before .if2 .taken in
-    let last = row-ends (a .bytes .now) (l .loop .at) (l .loop .column) (l .loop .number) (l .loop .row) (omega arith) e t in (
-      sym (begins l ∙ l .loop .inv .3 ∙ last ∙ λ i. read (record { at = l .loop .at + 1; column = sym (c .before .before .wrapping-add-usize .ensures) i; number = sym (c .before .new .ensures) i; ended = true })
-          (sym (c .before .before .before .before .put .ensures) i)),
+    let n = c .before in
+    let l = turn n in
+    let bytes = l .before .before .before .before .args .bytes .now in
+    let last = row-ends bytes (l .loop .at) (l .loop .column) (l .loop .number) (l .loop .row) (omega arith) (ended n) (eq-eqb _ _ (c .if3 .taken)) in
+    let column = sym (n .before .wrapping-add-usize .ensures) in
+    let number = sym (n .new .ensures) in
+    let row = sym (n .before .before .before .put .ensures) in (
+      sym (begins l ∙ l .loop .inv .3 ∙ last ∙ λ i. read (record { at = l .loop .at + 1; column = column i; number = number i; ended = true }) (row i)),
       record { inside = omega arith; onward = omega arith },
     )
 
@@ -75,16 +84,17 @@ loop-less c = search needs
 
 loop-again : tie.Need-loop-again Inv-loop μ-loop
 loop-again c =
-    let l = c .before .before .before .before .before .before .before .before .before .before in
-    let a = l .before .before .before .before .args in
-    let long = length-set (l .loop .row) (l .loop .column) (signedValue (l .loop .number)) in
-    let put = c .before .before .before .before .put .ensures in (
+    let n = c .before in
+    let l = turn n in
+    let bytes = l .before .before .before .before .args .bytes .now in
+    let next = number-ends bytes (l .loop .at) (l .loop .column) (l .loop .number) (l .loop .row) (omega arith) (ended n) (ne-eqb _ _ (c .if3 .left)) in
+    let column = sym (n .before .wrapping-add-usize .ensures) in
+    let number = sym (n .new .ensures) in
+    let row = n .before .before .before .put .ensures in (
       omega arith,
       omega arith,
-      omega (arith, ap length put, long),
-      l .loop .inv .3
-      ∙ number-ends (a .bytes .now) (l .loop .at) (l .loop .column) (l .loop .number) (l .loop .row) (omega arith) (sym (c .before .before .before .before .before .before .before .ends-number .ensures) ∙ c .before .before .before .before .before .before .if2 .taken) (ne-eqb _ _ (c .if3 .left))
-      ∙ λ i. withBytes (read (within (l .loop .at + 1) (sym (c .before .before .wrapping-add-usize .ensures) i) (sym (c .before .new .ensures) i)) (sym put i)) (drop (l .loop .at + 1) (a .bytes .now)),
+      omega (arith, ap length row, length-set (l .loop .row) (l .loop .column) (signedValue (l .loop .number))),
+      l .loop .inv .3 ∙ next ∙ λ i. withBytes (read (within (l .loop .at + 1) (column i) (number i)) (sym row i)) (drop (l .loop .at + 1) bytes),
     )
 
 with-requires : tie.Need-with-requires Inv-loop μ-loop
@@ -96,14 +106,14 @@ loop-less-2 c = search needs
 loop-again-2 : tie.Need-loop-again-2 Inv-loop μ-loop
 loop-again-2 c =
     let l = c .before .before .before .before .before in
-    let a = l .before .before .before .before .args in
-    let e = sym (c .before .before .ends-number .ensures) ∙ c .before .if2 .left in (
+    let bytes = l .before .before .before .before .args .bytes .now in
+    let e = sym (c .before .before .ends-number .ensures) ∙ c .before .if2 .left in
+    let next = goes-on bytes (l .loop .at) (l .loop .column) (l .loop .number) (l .loop .row) (omega arith) e in
+    let number = sym (c .with .ensures) in (
       omega arith,
       omega arith,
       omega arith,
-      l .loop .inv .3
-      ∙ goes-on (a .bytes .now) (l .loop .at) (l .loop .column) (l .loop .number) (l .loop .row) (omega arith) e
-      ∙ λ i. withBytes (read (within (l .loop .at + 1) (l .loop .column) (sym (c .with .ensures) i)) (l .loop .row)) (drop (l .loop .at + 1) (a .bytes .now)),
+      l .loop .inv .3 ∙ next ∙ λ i. withBytes (read (within (l .loop .at + 1) (l .loop .column) (number i)) (l .loop .row)) (drop (l .loop .at + 1) bytes),
     )
 
 same-length-2 : tie.Need-same-length-2 Inv-loop μ-loop

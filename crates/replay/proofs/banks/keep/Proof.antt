@@ -47,8 +47,11 @@ returns c =
     let places = length (a .room .now) in
     let first : take (most .result) cs ≡ take 8192 cs = ap (λ (k : ℕ). take k cs) (most .ensures) ∙ take-least 8192 cs in
     let long : length (take (most .result) cs) ≡ min 8192 (length cs) = length-take-le (most .result) cs (omega arith) ∙ most .ensures in (
-      ap (λ (r : ℕ). r - start .result) (row .0) ∙ ap (λ (k : ℕ). min (a .from + k) places - start .result) long ∙ ap (λ (s : ℕ). min (a .from + min 8192 (length cs)) places - s) (start .ensures)
-      ∙ filled (a .from) (min 8192 (length cs)) places ∙ both (length cs) (places - min (a .from) places),
+      ap (λ (r : ℕ). r - start .result) (row .0)
+          ∙ ap (λ (k : ℕ). min (a .from + k) places - start .result) long
+          ∙ ap (λ (s : ℕ). min (a .from + min 8192 (length cs)) places - s) (start .ensures)
+          ∙ filled (a .from) (min 8192 (length cs)) places
+          ∙ both (length cs) (places - min (a .from) places),
       row .1 ∙ ap (λ (l : List ℤ). sets (a .room .now) (a .from) (map narrowI32 l)) first,
     )
 
