@@ -1,6 +1,5 @@
 // The next line of the input, or the number that its end has.
 ghost use mathlib.Core.Path.{_≡_};
-ghost use lib.ListN.{length};
 ghost use Rattle.recording.specs.Lines.{nextOf, endOf};
 use crate::Next;
 use text::LineEnd;
