@@ -26,7 +26,7 @@ fn keep_values(numbers: &[i64], values: &mut [i16]) -> usize {
     let n = arith::least(numbers.len(), values.len());
     let mut i: usize = 0;
     while i < n {
-        let v = arith::sat16(numbers[i]);
+        let v = arith::narrow_i16(numbers[i]);
         values[i] = v;
         i += 1;
     }

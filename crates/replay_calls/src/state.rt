@@ -24,8 +24,8 @@ fn line_of(numbers: &[i64]) -> [Pair; 64] {
     let mut n: usize = 0;
     while n < 64 {
         line[n] = Pair {
-            i: arith::wrap_i32(rows::at(numbers, 2 * n)),
-            q: arith::wrap_i32(rows::at(numbers, 2 * n + 1)),
+            i: arith::narrow_i32(rows::at(numbers, 2 * n)),
+            q: arith::narrow_i32(rows::at(numbers, 2 * n + 1)),
         };
         n += 1;
     }
@@ -38,8 +38,8 @@ fn pending_of(numbers: &[i64]) -> [Pending; 24] {
     let mut n: usize = 0;
     while n < 24 {
         pending[n] = Pending {
-            e: arith::wrap_i32(rows::at(numbers, 2 * n)),
-            err: arith::wrap_i32(rows::at(numbers, 2 * n + 1)),
+            e: arith::narrow_i32(rows::at(numbers, 2 * n)),
+            err: arith::narrow_i32(rows::at(numbers, 2 * n + 1)),
         };
         n += 1;
     }

@@ -28,14 +28,6 @@ struct Progress {
     stop: Stop,
 }
 
-// Puts a pair into its places. Both numbers are within 16 bits, so that nothing is clamped.
-fn keep_pair(pair: &[i64; 2], values: &mut [i16], n: usize) {
-    if n < values.len() / 2 {
-        values[2 * n] = arith::sat16(pair[0]);
-        values[2 * n + 1] = arith::sat16(pair[1]);
-    }
-}
-
 // Takes pairs, from this line on, until there is no place for more.
 fn block_of(before: Input, first: u64, values: &mut [i16], bytes: &mut [u8]) -> Block {
     let mut pair = [0i64; 2];
@@ -53,7 +45,7 @@ fn block_of(before: Input, first: u64, values: &mut [i16], bytes: &mut [u8]) -> 
                 stop,
             };
         }
-        keep_pair(&pair, values, n);
+        recording::keep_pair(pair[0], pair[1], values, n);
         n += 1;
     }
     Block {

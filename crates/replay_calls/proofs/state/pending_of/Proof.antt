@@ -21,8 +21,8 @@ mul-at c = search needs
 at-requires : tie.Need-at-requires Inv-loop μ-loop
 at-requires c κs = search needs
 
-wrap-i32-requires : tie.Need-wrap-i32-requires Inv-loop μ-loop
-wrap-i32-requires c κs = search needs
+narrow-i32-requires : tie.Need-narrow-i32-requires Inv-loop μ-loop
+narrow-i32-requires c κs = search needs
 
 mul-at-2 : tie.Need-mul-at-2 Inv-loop μ-loop
 mul-at-2 c = search needs
@@ -33,8 +33,8 @@ add-at c = search needs
 at-requires-2 : tie.Need-at-requires-2 Inv-loop μ-loop
 at-requires-2 c κs = search needs
 
-wrap-i32-requires-2 : tie.Need-wrap-i32-requires-2 Inv-loop μ-loop
-wrap-i32-requires-2 c κs = search needs
+narrow-i32-requires-2 : tie.Need-narrow-i32-requires-2 Inv-loop μ-loop
+narrow-i32-requires-2 c κs = search needs
 
 mul-pending : tie.Need-mul-pending Inv-loop μ-loop
 mul-pending c = search needs
@@ -63,11 +63,11 @@ pending-of-spec =
     loop-holds
     mul-at
     at-requires
-    wrap-i32-requires
+    narrow-i32-requires
     mul-at-2
     add-at
     at-requires-2
-    wrap-i32-requires-2
+    narrow-i32-requires-2
     mul-pending
     array-set-from-pending
     add-n
