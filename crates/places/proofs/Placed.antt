@@ -6,7 +6,7 @@ use lib.Dec.{leb}
 use borrow.Author.Tests.{leb-true, le-leb}
 use Rattle.arith.proofs.Both.{and-left, and-right, and-both}
 use Rattle.state.specs.declared.Frontend.{Frontend}
-use Rattle.places.specs.State.{hasPlaces}
+use Rattle.places.specs.States.{hasPlaces}
 
 pub record Placed (f : Frontend) : Type 0 where
   pub symbols : f .registers .symbols ≤ 9223372036854775807

@@ -3,9 +3,9 @@ use crate::input::Input;
 use crate::output::Output;
 use crate::sheet::Head;
 use crate::stop::Stop;
-use state::Frontend;
 use kinds::I16;
 use params::Params;
+use state::Frontend;
 
 const PAIR: [u8; 2] = [I16, I16];
 
@@ -76,7 +76,7 @@ impl Progress {
         let block = block_of(self.rest, self.line, values, bytes);
         let used = arith::least(block.used, values.len());
         let given = self.state;
-        let done = given.process(params, h, g, k, &values[0..used], places);
+        let done = fixed::process(given, params, h, g, k, &values[0..used], places);
         let state = done.state;
         let verdict = done.verdict;
         let number = verdict.number();

@@ -1,0 +1,134 @@
+-- `places::states::write_first` meets its contract: the casts lose nothing, since the counts are below 2^63, and ten stores from place 0 on leave the ten numbers
+-- in front of what stood behind them (`lib.Seq`, `sets-eq`).
+use Prim.Native.Nat.{_^_, _<_}
+use mathlib.Core.Path.{_≡_}
+use mathlib.Core.List.{List, [], _∷_, _++_}
+use native.Mathlib.Omega.{arith}
+use lib.ListN.{length, drop, length-set}
+use lib.Seq.{sets, sets-eq}
+use lib.IntN.{ℤ}
+use lib.Signed.{mag}
+use mir.Syntax.{w32, w64}
+use mir.Val.{Fits, toZ, ofZ}
+use mir.Facts.{toZ-pos}
+use borrow.Author.Needs.{needs}
+use Rattle.arith.proofs.Bits.{sfit, held, whole}
+use Rattle.state.specs.declared.Frontend.{Frontend}
+use Rattle.places.specs.States.{firstNumbers}
+use Rattle.places.proofs.Placed.{Placed, placed}
+use Rattle.places.proofs.states.write_first.Statement.{statement}
+use Rattle.places.proofs.states.write_first.Tie as tie
+
+small : (s : tie.Start) → Placed (s .args .f)
+small s = placed (s .args .f) (s .pre .1)
+
+cast-state : tie.Need-cast-state
+cast-state c = search needs
+
+slice-set-from-state : tie.Need-slice-set-from-state
+slice-set-from-state c = search needs
+
+slice-set-from-t : tie.Need-slice-set-from-t
+slice-set-from-t c = search needs
+
+slice-set-from-v : tie.Need-slice-set-from-v
+slice-set-from-v c = search needs
+
+cast-state-2 : tie.Need-cast-state-2
+cast-state-2 c = search needs
+
+slice-set-from-state-2 : tie.Need-slice-set-from-state-2
+slice-set-from-state-2 c = search needs
+
+cast-state-3 : tie.Need-cast-state-3
+cast-state-3 c = search needs
+
+slice-set-from-state-3 : tie.Need-slice-set-from-state-3
+slice-set-from-state-3 c = simp length-set (omega (arith, c .before .before .before .before .before .before .pre .0))
+
+cast-state-4 : tie.Need-cast-state-4
+cast-state-4 c = let s = c .before .before .before .before .before .before .before in sfit (omega (arith, small s .symbols))
+
+slice-set-from-state-4 : tie.Need-slice-set-from-state-4
+slice-set-from-state-4 c = simp length-set (omega (arith, c .before .before .before .before .before .before .before .pre .0))
+
+cast-state-5 : tie.Need-cast-state-5
+cast-state-5 c = let s = c .before .before .before .before .before .before .before .before in sfit (omega (arith, small s .head))
+
+slice-set-from-state-5 : tie.Need-slice-set-from-state-5
+slice-set-from-state-5 c = simp length-set (omega (arith, c .before .before .before .before .before .before .before .before .pre .0))
+
+cast-state-6 : tie.Need-cast-state-6
+cast-state-6 c = let s = c .before .before .before .before .before .before .before .before .before in sfit (omega (arith, small s .oldest))
+
+slice-set-from-state-6 : tie.Need-slice-set-from-state-6
+slice-set-from-state-6 c = simp length-set (omega (arith, c .before .before .before .before .before .before .before .before .before .pre .0))
+
+cast-state-7 : tie.Need-cast-state-7
+cast-state-7 c = let s = c .before .before .before .before .before .before .before .before .before .before in sfit (omega (arith, small s .waiting))
+
+slice-set-from-state-7 : tie.Need-slice-set-from-state-7
+slice-set-from-state-7 c = simp length-set (omega (arith, c .before .before .before .before .before .before .before .before .before .before .pre .0))
+
+cast-state-8 : tie.Need-cast-state-8
+cast-state-8 c = let s = c .before .before .before .before .before .before .before .before .before .before .before in sfit (omega (arith, small s .samples))
+
+slice-set-from-state-8 : tie.Need-slice-set-from-state-8
+slice-set-from-state-8 c = simp length-set (omega (arith, c .before .before .before .before .before .before .before .before .before .before .before .pre .0))
+
+same-length : tie.Need-same-length
+same-length c = simp length-set
+
+-- what ten stores leave, once the casts are read back
+stored : (f : Frontend) (l : List ℤ) → mag (f .registers .«t_acc») < 2 ^ 63 → mag (f .registers .v) < 2 ^ 63 → Fits w32 (f .registers .nco) → Fits w32 (f .registers .period)
+    → Fits w32 (f .registers .«gain_acc») → Placed f → length l ≡ 186
+    → sets l 0 (toZ w64 (f .registers .nco) ∷ toZ w64 (ofZ w64 (f .registers .«t_acc»)) ∷ toZ w64 (ofZ w64 (f .registers .v)) ∷ toZ w64 (f .registers .period)
+    ∷ toZ w64 (f .registers .«gain_acc») ∷ toZ w64 (f .registers .symbols) ∷ toZ w64 (f .head) ∷ toZ w64 (f .oldest) ∷ toZ w64 (f .waiting) ∷ toZ w64 (f .samples) ∷ [])
+    ≡ firstNumbers f ++ drop 10 l
+stored f l t v nco period gain placed long =
+    simp (
+      whole (f .registers .nco) nco,
+      held w64 (f .registers .«t_acc») t,
+      held w64 (f .registers .v) v,
+      whole (f .registers .period) period,
+      whole (f .registers .«gain_acc») gain,
+      toZ-pos w64 {n = f .registers .symbols} (omega arith),
+      toZ-pos w64 {n = f .head} (omega arith),
+      toZ-pos w64 {n = f .oldest} (omega arith),
+      toZ-pos w64 {n = f .waiting} (omega arith),
+      toZ-pos w64 {n = f .samples} (omega arith),
+    ) (sets-eq (firstNumbers f) l 0 (omega arith))
+
+returns : tie.Need-returns
+returns c =
+    let k = c .before .before .before .before .before .before .before in
+    let s = k .before .before .before .before in
+    let told = k .before .struct-told2 .given in
+    let known = c .struct-known8 .given in
+    stored (s .args .f) (s .args .state .now) (search told depth 40) (search told depth 40) (search known depth 40) (search known depth 40) (search known depth 40)
+    (small s) (s .pre .0)
+
+pub write-first-spec : {M : Type 1} → statement M
+write-first-spec =
+    tie.close
+    (tie.spec
+    cast-state
+    slice-set-from-state
+    slice-set-from-t
+    slice-set-from-v
+    cast-state-2
+    slice-set-from-state-2
+    cast-state-3
+    slice-set-from-state-3
+    cast-state-4
+    slice-set-from-state-4
+    cast-state-5
+    slice-set-from-state-5
+    cast-state-6
+    slice-set-from-state-6
+    cast-state-7
+    slice-set-from-state-7
+    cast-state-8
+    slice-set-from-state-8
+    same-length
+    returns)
