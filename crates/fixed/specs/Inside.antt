@@ -121,11 +121,10 @@ pub record Ready (s : Sheet) (x : Kept) : Type 0 where
   pub begun : Begun s x
   pub room : x .position .samples < 9223372036854775807
 
--- A sheet that is accepted, a position in the line, a gain accumulator of 24 bits, and both components of the line at their size.
-pub record Tuned (s : Sheet) (i q : List ℕ) (r : Registers) (w : Position) : Type 0 where
+-- A sheet that is accepted, a position in the line, and both components of the line at their size.
+pub record Tuned (s : Sheet) (i q : List ℕ) (w : Position) : Type 0 where
   pub accepted : judged s ≡ nothing
   pub head : w .head < s .params .taps
-  pub gain : r .«gain_acc» ≤ 16777215
   pub long-i : length i ≡ 128
   pub long-q : length q ≡ 128
 

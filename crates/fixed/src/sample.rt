@@ -7,16 +7,16 @@ use params::Params;
 use registers::Registers;
 use state::Position;
 use symbol::Output;
+use symbol::Sums;
 use symbol::Symbol;
 ghost use mathlib.Core.Path.{_≡_};
 ghost use mathlib.Core.Bool.{true, false};
 ghost use mathlib.Core.List.{List};
-ghost use Prim.Native.Nat.{_^_, _+_, _/_, _≤_, _<_};
+ghost use Prim.Native.Nat.{_^_, _+_, _≤_, _<_};
 ghost use lib.IntN.{natAbs, _-ℤ_};
 ghost use lib.Signed.{ltZ};
 ghost use Rattle.params.specs.Judge.{sheetOf};
 ghost use Rattle.registers.specs.Step.{one};
-ghost use Rattle.symbol.specs.Make.{symbolFrom};
 ghost use Rattle.tables.specs.Wheel.{wheelTable};
 ghost use Rattle.state.specs.declared.Pair.{Pair};
 ghost use Rattle.fixed.specs.Filter.{filtered};
@@ -32,35 +32,33 @@ pub(crate) struct Pushed {
 
 // ---- step 3 with a symbol
 
-// The symbol of this gain and period over the line: only row `phase` of each bank goes to the filter.
-fn symbol_at(
+// The three banks' sums over the line: only row `phase` of each bank goes to the filter.
+fn sums_at(
     p: Params,
     h: &[i32],
     g: &[i32],
     k: &[i32],
     i: &[u32],
     q: &[u32],
-    r: Registers,
     w: Position,
     phase: usize,
-) -> Symbol
-    requires { ⌜ Tuned (sheetOf p (now h) (now g) (now k)) (now i) (now q) r w ⌝ }
+) -> [Sums; 3]
+    requires { ⌜ Tuned (sheetOf p (now h) (now g) (now k)) (now i) (now q) w ⌝ }
     requires { ⌜ phase < 64 ⌝ }
-    ensures sample { λ y. ⌜ y .sample ≡ w .samples ⌝ }
-    ensures symbol { λ y. ⌜
-        ((l : List Pair) → Laid (p .taps) (now (i .entry)) (now (q .entry)) l → y ≡ symbolFrom p (r .«gain_acc» / 256) (r .period) (w .samples) phase
-        (filtered (sheetOf p (now (h .entry)) (now (g .entry)) (now (k .entry))) phase l (w .head))) ⌝ }
+    ensures { λ s. ⌜
+        ((l : List Pair) → Laid (p .taps) (now (i .entry)) (now (q .entry)) l
+        → s ≡ filtered (sheetOf p (now (h .entry)) (now (g .entry)) (now (k .entry))) phase l (w .head)) ⌝ }
 {
     let taps = p.taps as usize;
     let a = phase * taps;
     let b = a + taps;
     let head = w.head;
     let end = head + taps;
-    let s = filter::filter(&h[a..b], &g[a..b], &k[a..b], &i[head..end], &q[head..end]);
-    Symbol::make(p, r.gain(), r.period, w.samples, phase as u8, s)
+    filter::filter(&h[a..b], &g[a..b], &k[a..b], &i[head..end], &q[head..end])
 }
 
-// The registers step first: the symbol reports the gain and the period that they then have.
+// The symbol reports the gain and the period that the registers have once they stepped. They step behind the filter, so that its loops keep the machine's
+// registers for themselves.
 fn with_symbol(
     p: Params,
     h: &[i32],
@@ -82,10 +80,18 @@ fn with_symbol(
         (kept (now (i .entry)) (now (q .entry)) (now (e .exit)) (now (err .exit)) (s .registers) (s .position)) (s .symbol) ⌝ }
 {
     let phase = (r.t_acc >> 18) as usize;
+    let sums = sums_at(p, h, g, k, i, q, w, phase);
     let oldest = queue::oldest(&*e, &*err, w);
     let stepped = r.after_symbol(p, registers::is_due(w.waiting), oldest);
     let registers = stepped.registers;
-    let symbol = symbol_at(p, h, g, k, i, q, registers, w, phase);
+    let symbol = Symbol::make(
+        p,
+        registers.gain(),
+        registers.period,
+        w.samples,
+        phase as u8,
+        sums,
+    );
     queue::join(&mut *e, &mut *err, w, symbol.e, symbol.err);
     let position = queue::after_symbol(w);
     Pushed {

@@ -3,6 +3,7 @@
 use Prim.Native.Nat.{ℕ, _+_, _/_, _%_, _≤_, _<_}
 use mathlib.Core.Path.{_≡_, refl, sym, ap, subst, _∙_}
 use mathlib.Core.Bool.{Bool, true}
+use mathlib.Core.List.{List}
 use native.Mathlib.Omega.{arith}
 use lib.Dec.{T}
 use lib.ListN.{set}
@@ -14,10 +15,13 @@ use borrow.Author.Needs.{needs}
 use borrow.Author.Tests.{ltb-true}
 use Rattle.arith.proofs.Bits.{back, held}
 use Rattle.arith.proofs.Widths.{in64}
+use Rattle.params.specs.declared.Params.{Params}
 use Rattle.params.specs.Judge.{Sheet, sheetOf}
 use Rattle.registers.specs.declared.Registers.{Registers}
 use Rattle.registers.specs.declared.AfterSymbol.{AfterSymbol}
 use Rattle.registers.specs.Step.{isDue, one, left, afterSymbol}
+use Rattle.symbol.specs.declared.Sums.{Sums}
+use Rattle.symbol.specs.declared.Symbol.{Symbol}
 use Rattle.symbol.specs.Make.{symbolFrom}
 use Rattle.state.specs.declared.Position.{Position}
 use Rattle.state.specs.declared.Frontend.{Frontend}
@@ -34,6 +38,11 @@ use Rattle.fixed.proofs.sample.with_symbol.Tie as tie
 
 phase-is : (t : ℤ) (n : ℕ) → t ≡ pos n → n < 16777216 → in64 (shrZ (in64 t) 262144) ≡ pos (n / 262144)
 phase-is t n e h = rw e (simp (back w64 (pos n) (omega arith)) (back w64 (pos (n / 262144)) (omega arith)))
+
+-- a symbol has the sample that it is made at
+sample-is : (p : Params) (gain period sample phase : ℕ) (sums : List Sums) → symbolFrom p gain period sample phase sums .sample ≡ sample
+unfolding symbolFrom
+sample-is p gain period sample phase sums = refl
 
 -- ---- what holds at the start
 
@@ -62,9 +71,21 @@ cast-phase c =
     subst (λ (z : ℤ). T (nonNeg z) × Fits w64 (natAbs z)) (sym (phase-is (b .args .r .«t_acc») _ (going-at b .whole) (soon b)))
     (tt, record { fits = omega (arith, soon b) })
 
+sums-at-requires : tie.Need-sums-at-requires
+sums-at-requires c κs =
+    let b = c .before .before .before .before in (
+      record {
+        accepted = b .pre .0 .begun .accepted;
+        head = going-at b .head;
+        long-i = b .pre .0 .begun .long-i;
+        long-q = b .pre .0 .begun .long-q;
+      },
+      subst (λ (n : ℕ). n < 64) (sym (phase-at b)) (omega (arith, soon b)),
+    )
+
 oldest-requires : tie.Need-oldest-requires
 oldest-requires c κs =
-    let b = c .before .before .before .before .before .before in
+    let b = c .before .before .before .before .before .before .before in
     ((b .pre .0 .begun .long-e, b .pre .0 .begun .long-err), omega (arith, going-at b .oldest))
 
 is-due-requires : tie.Need-is-due-requires
@@ -77,7 +98,7 @@ after-symbol-requires c κs = search needs
 
 module _ (c : tie.After-after-symbol) where
   abbrev at : tie.Start
-  at = c .before .before .before .before .before .before .before .before .before
+  at = c .before .before .before .before .before .before .before .before .before .before
 
   stepped : c .after-symbol .result ≡ record { registers = left (dueIn (at .args .p) (x at)); made = true }
   stepped =
@@ -89,28 +110,23 @@ module _ (c : tie.After-after-symbol) where
   registers-are : c .after-symbol .result .registers ≡ left (dueIn (at .args .p) (x at))
   registers-are = ap (λ (z : AfterSymbol). z .registers) stepped
 
-symbol-at-requires : tie.Need-symbol-at-requires
-symbol-at-requires c κs =
-    let d = c .before in
-    let b = at d in (
-      record {
-        accepted = b .pre .0 .begun .accepted;
-        head = going-at b .head;
-        gain = subst (λ (r : Registers). r .«gain_acc» ≤ 16777215) (sym (registers-are d)) (step-gain (b .pre .0));
-        long-i = b .pre .0 .begun .long-i;
-        long-q = b .pre .0 .begun .long-q;
-      },
-      subst (λ (n : ℕ). n < 64) (sym (phase-at b)) (omega (arith, soon b)),
-    )
+gain-requires : tie.Need-gain-requires
+gain-requires c κs = search needs
+
+cast-make : tie.Need-cast-make
+cast-make c = let b = at (c .before .before) in record { fits = subst (λ (n : ℕ). n < 256) (sym (phase-at b)) (omega (arith, soon b)) }
+
+make-requires : tie.Need-make-requires
+make-requires c κs = search needs
 
 join-requires : tie.Need-join-requires
 join-requires c κs =
-    let b = at (c .before .before .before .before .before .before) in
+    let b = at (c .before .before .before .before .before .before .before) in
     ((b .pre .0 .begun .long-e, b .pre .0 .begun .long-err), (omega (arith, going-at b .oldest), omega (arith, going-at b .waiting)))
 
 after-symbol-requires-2 : tie.Need-after-symbol-requires-2
 after-symbol-requires-2 c κs =
-    let b = at (c .before .before .before .before .before .before .before .before .before) in
+    let b = at (c .before .before .before .before .before .before .before .before .before .before) in
     (omega (arith, going-at b .oldest), (omega (arith, going-at b .waiting), b .pre .0 .room))
 
 same-length : tie.Need-same-length
@@ -125,11 +141,11 @@ module _ (c : tie.After-after-symbol2) where
   abbrev joined : tie.After-join
   joined = c .before .before .before
 
-  abbrev made : tie.After-symbol-at
+  abbrev made : tie.After-make
   made = joined .before .before .before .before .before
 
   abbrev moved : tie.After-after-symbol
-  moved = made .before .before
+  moved = made .before .before .before
 
   abbrev b : tie.Start
   b = at moved
@@ -138,37 +154,52 @@ module _ (c : tie.After-after-symbol2) where
   y = kept (b .args .i .now) (b .args .q .now) (joined .join .last .0) (joined .join .last .1 .0) (moved .after-symbol .result .registers) (c .after-symbol2 .result)
 
   -- the queue with the symbol's errors
-  timing-queued : joined .join .last .0 ≡ set (b .args .e .now) ((b .args .w .oldest + b .args .w .waiting) % 24) (made .symbol-at .result .e)
+  timing-queued : joined .join .last .0 ≡ set (b .args .e .now) ((b .args .w .oldest + b .args .w .waiting) % 24) (made .make .result .e)
   timing-queued =
       joined .join .ensures .0
-      ∙ ap (set (b .args .e .now) _) (held w32 (made .symbol-at .result .e) (joined .before .before .struct-told2 .given .1 .1 .1 .1 .1 .1 .1 .1 .1 .1 .1 .0 .1))
+      ∙ ap (set (b .args .e .now) _) (held w32 (made .make .result .e) (joined .before .before .struct-told2 .given .1 .1 .1 .1 .1 .1 .1 .1 .1 .1 .1 .0 .1))
 
-  gain-queued : joined .join .last .1 .0 ≡ set (b .args .err .now) ((b .args .w .oldest + b .args .w .waiting) % 24) (made .symbol-at .result .err)
+  gain-queued : joined .join .last .1 .0 ≡ set (b .args .err .now) ((b .args .w .oldest + b .args .w .waiting) % 24) (made .make .result .err)
   gain-queued =
       joined .join .ensures .1
-      ∙ ap (set (b .args .err .now) _) (held w32 (made .symbol-at .result .err) (joined .before .struct-told3 .given .1 .1 .1 .1 .1 .1 .1 .1 .1 .1 .1 .1 .0 .1))
+      ∙ ap (set (b .args .err .now) _) (held w32 (made .make .result .err) (joined .before .struct-told3 .given .1 .1 .1 .1 .1 .1 .1 .1 .1 .1 .1 .1 .0 .1))
 
-  kept-is : keptWith (b .args .p) (x b) (made .symbol-at .result .e) (made .symbol-at .result .err) ≡ y
+  kept-is : keptWith (b .args .p) (x b) (made .make .result .e) (made .make .result .err) ≡ y
   kept-is =
       let a = b .args in
       λ t. kept (a .i .now) (a .q .now) (sym timing-queued t) (sym gain-queued t) (sym (registers-are moved) t) (sym (c .after-symbol2 .ensures) t)
 
-  -- the symbol is that of any state that the arrays stand for
-  symbol-is : (f : Frontend) → Stands (b .args .p .taps) (x b) f → made .symbol-at .result ≡ symbolOf (sheet b) f
+  -- the symbol is made of the gain and the period that the registers then have
+  made-is : made .make .result
+      ≡ (let d : Registers = left (dueIn (b .args .p) (x b)) in
+      symbolFrom (b .args .p) (d .«gain_acc» / 256) (d .period) (b .args .w .samples) (phase b) (moved .before .before .before .before .before .sums-at .result))
+  made-is =
+      let a = b .args in
+      let sums = moved .before .before .before .before .before .sums-at .result in
+      let d : Registers = left (dueIn (a .p) (x b)) in
+      let small : d .«gain_acc» / 256 % 65536 ≡ d .«gain_acc» / 256 = omega (arith, step-gain (b .pre .0)) in
+      let gain : made .before .gain .result ≡ d .«gain_acc» / 256 =
+      made .before .gain .ensures ∙ ap (λ (r : Registers). r .«gain_acc» / 256 % 65536) (registers-are moved) ∙ small in
+      made .make .ensures
+      ∙ (λ t. symbolFrom (a .p) (gain t) (registers-are moved t .period) (a .w .samples) (phase b) sums)
+
+  -- it is that of any state that the arrays stand for
+  symbol-is : (f : Frontend) → Stands (b .args .p .taps) (x b) f → made .make .result ≡ symbolOf (sheet b) f
   symbol-is f stands =
       let a = b .args in
-      made .symbol-at .ensures .1 (f .line) (stands .line)
-      ∙ ap (λ (r : Registers). symbolFrom (a .p) (r .«gain_acc» / 256) (r .period) (a .w .samples) (phase b) (filtered (sheet b) (phase b) (f .line) (a .w .head)))
-      (registers-are moved)
+      let d : Registers = left (dueIn (a .p) (x b)) in
+      made-is
+      ∙ ap (symbolFrom (a .p) (d .«gain_acc» / 256) (d .period) (a .w .samples) (phase b))
+      (moved .before .before .before .before .before .sums-at .ensures (f .line) (stands .line))
       ∙ stands-symbol (b .pre .0) f stands (phase b) (phase-at b)
 
-  makes : MakesSymbol (sheet b) (x b) y (made .symbol-at .result)
+  makes : MakesSymbol (sheet b) (x b) y (made .make .result)
   makes = record {
     on = subst (GoesOn (sheet b) (x b)) kept-is (with-symbol-on (b .pre .0) _ _ (b .pre .1));
-    sample = made .symbol-at .ensures .0;
+    sample = ap (λ (z : Symbol). z .sample) made-is ∙ sample-is (b .args .p) _ _ (b .args .w .samples) (phase b) _;
     is = symbol-is;
     state = λ f stands.
-        subst (λ (z : Kept). Stands (b .args .p .taps) z (withSymbol (sheet b) f)) kept-is (stands-with (b .pre .0) f stands (made .symbol-at .result) (symbol-is f stands));
+        subst (λ (z : Kept). Stands (b .args .p .taps) z (withSymbol (sheet b) f)) kept-is (stands-with (b .pre .0) f stands (made .make .result) (symbol-is f stands));
   }
 
 returns : tie.Need-returns
@@ -179,10 +210,13 @@ with-symbol-spec =
     tie.close
     (tie.spec
     cast-phase
+    sums-at-requires
     oldest-requires
     is-due-requires
     after-symbol-requires
-    symbol-at-requires
+    gain-requires
+    cast-make
+    make-requires
     join-requires
     after-symbol-requires-2
     same-length

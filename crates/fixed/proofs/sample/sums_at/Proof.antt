@@ -1,26 +1,23 @@
--- `fixed::sample::symbol_at` meets its contract: the parts of the banks that go to the filter are the phase's rows of an accepted sheet, as the filter takes them.
+-- `fixed::sample::sums_at` meets its contract: the parts of the banks that go to the filter are the phase's rows of an accepted sheet, as the filter takes them.
 -- Those of the line are the windows over which a row's sums are its sums over the line, newest first (Windows).
-use Prim.Native.Nat.{ℕ, _+_, _*_, _/_, _%_, _≤_}
-use mathlib.Core.Path.{_≡_, refl, ap, _∙_}
+use Prim.Native.Nat.{ℕ, _+_, _*_, _≤_}
+use mathlib.Core.Path.{_≡_, _∙_}
 use mathlib.Core.Bool.{true}
 use mathlib.Core.List.{List, [], _∷_}
 use native.Mathlib.Omega.{arith}
 use lib.ListN.{length}
 use lib.IntN.{ℤ}
 use borrow.Author.Needs.{needs}
-use Rattle.params.specs.declared.Params.{Params}
 use Rattle.params.specs.Judge.{sheetOf, rowOf, rowsFaults, rowsOutside}
 use Rattle.params.proofs.Accepted.{Accepted, no-faults, judged-none}
 use Rattle.params.proofs.RowsOf.{row-inside}
 use Rattle.state.specs.declared.Pair.{Pair}
 use Rattle.symbol.specs.declared.Sums.{Sums}
-use Rattle.symbol.specs.declared.Symbol.{Symbol}
 use Rattle.fixed.specs.Filter.{sumsOf, filtered}
-use Rattle.symbol.specs.Make.{symbolFrom}
 use Rattle.fixed.specs.Inside.{Laid, sumsOver, Row, DetectorRow}
 use Rattle.fixed.proofs.Windows.{cut, cut-long, sums-newest, good-part, detector-part}
-use Rattle.fixed.proofs.sample.symbol_at.Statement.{statement}
-use Rattle.fixed.proofs.sample.symbol_at.Tie as tie
+use Rattle.fixed.proofs.sample.sums_at.Statement.{statement}
+use Rattle.fixed.proofs.sample.sums_at.Tie as tie
 
 -- ---- what the sheet and the phase tell
 
@@ -82,11 +79,6 @@ module _ (s : tie.Start) where
       λ cs long. sums-newest taps phase (s .pre .1) cs long head (s .pre .0 .head) laid in
       let lengths = accepted .lengths in
       λ t. is h (lengths .long-h) t ∷ is g (lengths .long-g) t ∷ is k (lengths .long-k) t ∷ []
-
--- a symbol has the sample that it is made at
-sample-is : (p : Params) (gain period sample phase : ℕ) (sums : List Sums) → symbolFrom p gain period sample phase sums .sample ≡ sample
-unfolding symbolFrom
-sample-is p gain period sample phase sums = refl
 
 cast-taps : tie.Need-cast-taps
 cast-taps c = search needs
@@ -167,33 +159,13 @@ filter-requires c κs =
     let b = accepted s .banks in
     (detector s 0 (h s) (l .long-h) (b .rows-h) (b .outside-h), (detector s 1 (g s) (l .long-g) (b .rows-g) (b .outside-g), output s 2 (k s) (l .long-k) (b .rows-k)))
 
-gain-requires : tie.Need-gain-requires
-gain-requires c κs = search needs
-
-cast-make : tie.Need-cast-make
-cast-make c = search needs
-
-make-requires : tie.Need-make-requires
-make-requires c κs = search needs
-
 returns : tie.Need-returns
 returns c =
-    let n = c .before in
-    let f = n .before in
-    let s = f .before .before .before .before .before .before .before .before .before in
-    let a = s .args in
-    let gain : ℕ = a .r .«gain_acc» / 256 in
-    let make : List Sums → Symbol = symbolFrom (a .p) gain (a .r .period) (a .w .samples) (a .phase) in
-    let small : a .r .«gain_acc» / 256 % 65536 ≡ gain = omega (arith, s .pre .0 .gain) in
-    let made : c .make .result ≡ make (f .filter .result) =
-    c .make .ensures ∙ ap (λ (x : ℕ). symbolFrom (a .p) x (a .r .period) (a .w .samples) (a .phase) (f .filter .result)) (n .gain .ensures ∙ small) in
-    let summed : f .filter .result ≡ over s (h s) ∷ over s (g s) ∷ over s (k s) ∷ [] = f .filter .ensures in (
-      ap (λ (y : Symbol). y .sample) made ∙ sample-is (a .p) gain (a .r .period) (a .w .samples) (a .phase) (f .filter .result),
-      λ l laid. made ∙ ap make (summed ∙ sums-are s l laid),
-    )
+    let s = c .before .before .before .before .before .before .before .before .before in
+    λ l laid. c .filter .ensures ∙ sums-are s l laid
 
-pub symbol-at-spec : {M : Type 1} → statement M
-symbol-at-spec =
+pub sums-at-spec : {M : Type 1} → statement M
+sums-at-spec =
     tie.close
     (tie.spec
     cast-taps
@@ -221,7 +193,4 @@ symbol-at-spec =
     part-filter-start-5
     part-filter-end-5
     filter-requires
-    gain-requires
-    cast-make
-    make-requires
     returns)
