@@ -2,6 +2,7 @@
 //
 // A place is a signed number of 64 bits, in which sheets, states and answers cross to C and in which the fields of a line are read.
 ghost use mathlib.Core.Path.{_≡_};
+ghost use mathlib.Core.Bool.{_&&_};
 ghost use Rattle.kinds.specs.Kinds.{leastOf, mostOf, isKind, areKinds, placesNumber};
 
 // A count is unsigned of 64 bits; a place takes the lower half of these.
@@ -61,21 +62,30 @@ fn is_kind(kind: u8, v: i64) -> bool
     v <= most_of(kind)
 }
 
-// Whether there is a place for each kind, with a number of it.
+fn both(a: bool, b: bool) -> bool
+    ensures { λ r. ⌜ r ≡ (a && b) ⌝ }
+{
+    if a {
+        return b;
+    }
+    false
+}
+
+// Whether there is a place for each kind, with a number of it. A number of another kind does not end the loop: without a way out of its turns the compiler
+// makes one straight run of a sheet's, and does not take what comes behind them for unlikely.
 pub fn are_kinds(kinds: &[u8], places: &[i64]) -> bool
     ensures { λ r. ⌜ r ≡ areKinds (now (kinds .entry)) (now (places .entry)) ⌝ }
 {
     if places.len() < kinds.len() {
         return false;
     }
+    let mut good = true;
     let mut n: usize = 0;
     while n < kinds.len() {
-        if !is_kind(kinds[n], places[n]) {
-            return false;
-        }
+        good = both(good, is_kind(kinds[n], places[n]));
         n += 1;
     }
-    true
+    good
 }
 
 // 18 for another number of places than of kinds, 19 for a number that is not one of its kind, and 0 for places that can be read.
