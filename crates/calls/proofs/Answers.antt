@@ -25,7 +25,7 @@ use Rattle.fixed.proofs.Runs.{run-samples}
 use Rattle.fixed.proofs.Turns.{pairs-long}
 use Rattle.fixed.proofs.Verdicts.{block-numbered, Faultless, faultless}
 use Rattle.places.specs.Answer.{answered}
-use Rattle.places.specs.State.{stateFits, hasPlaces}
+use Rattle.places.specs.States.{stateFits, hasPlaces}
 use Rattle.places.proofs.Placed.{Placed, has-places}
 use Rattle.calls.specs.Calls.{firstNumber, stateNumber}
 

@@ -20,7 +20,7 @@ use Rattle.fixed.specs.Block.{Block, blockOf, Read, readOf}
 use Rattle.places.specs.Answer.{Answer, answered}
 use Rattle.places.specs.Sheet.{sheetNumber, paramsAt, sheetNumbers}
 use Rattle.places.specs.Rates.{designNumber, designAt, gainsAt}
-use Rattle.places.specs.State.{stateFits, stateOf, numbersOf}
+use Rattle.places.specs.States.{stateFits, stateOf, numbersOf}
 
 -- The first of two numbers of refusals, 0 standing for none.
 abbrev pub firstNumber : ℕ → ℕ → ℕ

@@ -14,7 +14,7 @@ use Rattle.fixed.specs.declared.Pending.{Pending}
 use Rattle.fixed.specs.declared.Frontend.{Frontend}
 use Rattle.fixed.specs.Start.{noPair, noPending}
 use Rattle.kinds.specs.Kinds.{at, i32, isKind, areKinds}
-use Rattle.places.specs.State.{flatPairs, lineOf, pendingOf, lineNumbers, pendingNumbers, stateKinds, stateFits, stateOf, numbersOf}
+use Rattle.places.specs.States.{flatPairs, lineOf, pendingOf, lineNumbers, pendingNumbers, stateKinds, stateFits, stateOf, numbersOf}
 use Rattle.places.specs.Crossing.{Whole, Typed, StatesCross}
 use Rattle.arith.proofs.Both.{and-both}
 use Rattle.kinds.proofs.OfKind.{own-u32, own-count, front}

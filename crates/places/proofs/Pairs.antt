@@ -8,7 +8,7 @@ use lib.Seq.{ext-getD, getD-take, getD-drop, length-take-le, take-all, paste, pa
 use lib.IntN.{ℤ, pos}
 use Rattle.fixed.proofs.Filling.{Filled, filled-none, filled-next}
 use Rattle.kinds.specs.Kinds.{at}
-use Rattle.places.specs.State.{inPairs, flatPairs}
+use Rattle.places.specs.States.{inPairs, flatPairs}
 
 -- ---- what two numbers make
 

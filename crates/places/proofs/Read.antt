@@ -15,7 +15,7 @@ use Rattle.places.specs.declared.ReadSheet.{ReadSheet}
 use Rattle.places.specs.declared.ReadDesign.{ReadDesign}
 use Rattle.places.specs.Sheet.{sheetNumber, paramsAt, readSheet}
 use Rattle.places.specs.Rates.{designNumber, designAt, gainsAt, readDesign}
-use Rattle.places.specs.State.{stateFits, stateOf, readState}
+use Rattle.places.specs.States.{stateFits, stateOf, readState}
 
 -- a refusal has a number other than 0
 pub record Unread (number n : ℕ) : Type 0 where

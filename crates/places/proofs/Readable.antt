@@ -13,7 +13,7 @@ use borrow.Author.Tests.{eqb-true}
 use Rattle.kinds.specs.Kinds.{u32, i32, i64, count, areKinds, placesNumber, KindAt}
 use Rattle.places.specs.Sheet.{sheetKinds, sheetNumber}
 use Rattle.places.specs.Rates.{designKinds, designNumber}
-use Rattle.places.specs.State.{stateKinds, stateFits}
+use Rattle.places.specs.States.{stateKinds, stateFits}
 use Rattle.arith.proofs.Both.{and-left, and-right}
 use Rattle.kinds.proofs.OfKind.{kind-at}
 use Rattle.kinds.proofs.Readable.{readable-at}

@@ -10,7 +10,7 @@ use Rattle.fixed.specs.declared.Frontend.{Frontend}
 use Rattle.fixed.specs.Start.{noPair, noPending}
 use Rattle.kinds.specs.Kinds.{u8, u32, i16, i32, i64, count, isKind}
 use Rattle.places.specs.Sheet.{sheetNumber, paramsAt, sheetNumbers}
-use Rattle.places.specs.State.{stateFits, stateOf, numbersOf}
+use Rattle.places.specs.States.{stateFits, stateOf, numbersOf}
 
 -- ---- sheets
 

@@ -2,5 +2,5 @@
 pub mod Answer
 pub mod Sheet
 pub mod Rates
-pub mod State
+pub mod States
 pub mod Crossing

@@ -1,11 +1,11 @@
 // Sheets, states and designs as places: numbers of 64 bits, in which they cross to C and in which the programs read them.
 //
 // Nothing is asked of a caller: places that are those of no sheet, state or design are refused by a number, and then nothing is written.
-// A sheet is 17 places (sheet.rt), a state 186 (state.rt), a design five rates and eight places (rates.rt).
+// A sheet is 17 places (sheet.rt), a state 186 (states.rt), a design five rates and eight places (rates.rt).
 mod numbers;
 mod rates;
 mod sheet;
-mod state;
+mod states;
 
 use design::Design;
 use design::Gains;
@@ -16,8 +16,8 @@ pub use sheet::no_sheet;
 pub use sheet::read_sheet;
 pub use sheet::sheet_kinds;
 pub use sheet::write_sheet;
-pub use state::read_state;
-pub use state::write_state;
+pub use states::read_state;
+pub use states::write_state;
 
 // The sheet of some places, or 18 or 19.
 pub enum ReadSheet {

@@ -19,7 +19,7 @@ use Rattle.fixed.specs.Block.{Block, blockOf, processed}
 use Rattle.places.specs.Sheet.{sheetNumber}
 use Rattle.places.specs.declared.ReadState.{ReadState}
 use Rattle.places.specs.Answer.{Answer}
-use Rattle.places.specs.State.{stateFits, stateOf, numbersOf, hasPlaces, stateWritten}
+use Rattle.places.specs.States.{stateFits, stateOf, numbersOf, hasPlaces, stateWritten}
 use Rattle.calls.specs.Calls.{firstNumber, sheetAt, stateNumber, BlockAnswer, blockAnswer}
 use Rattle.places.proofs.Readable.{state-long}
 use Rattle.places.proofs.Read.{Unread, Sheeted, sheet-refused, sheet-read, state-tested, state-read}

@@ -23,7 +23,7 @@ use Rattle.fixed.specs.Block.{Read, stateFaults, readOf, reading}
 use Rattle.kinds.specs.Kinds.{at}
 use Rattle.places.specs.Sheet.{sheetNumber}
 use Rattle.places.specs.declared.ReadState.{ReadState}
-use Rattle.places.specs.State.{stateFits, stateOf}
+use Rattle.places.specs.States.{stateFits, stateOf}
 use Rattle.calls.specs.Calls.{firstNumber, sheetAt, stateNumber, readAnswer}
 use Rattle.kinds.proofs.OfKind.{count-small}
 use Rattle.places.proofs.Readable.{state-at}

@@ -11,7 +11,7 @@ use Rattle.params.specs.Judge.{Sheet, sheetOf}
 use Rattle.fixed.specs.Start.{Start, startOf, started}
 use Rattle.places.specs.Answer.{answered}
 use Rattle.places.specs.Sheet.{sheetNumber}
-use Rattle.places.specs.State.{numbersOf, stateWritten}
+use Rattle.places.specs.States.{numbersOf, stateWritten}
 use Rattle.places.proofs.Answered.{refuses}
 use Rattle.places.proofs.Read.{Unread, Sheeted, sheet-refused, sheet-read}
 use Rattle.calls.specs.Calls.{sheetAt, startAnswer}

@@ -1,4 +1,4 @@
--- `places::state::write_pending` meets its contract: after n turns the numbers of the first n pairs stand in the state's places from 138 on.
+-- `places::states::write_pending` meets its contract: after n turns the numbers of the first n pairs stand in the state's places from 138 on.
 -- What is before them and behind them is as it was (Pairs, `Put`).
 use Prim.Native.Nat.{_-_}
 use mathlib.Core.Path.{refl, ap, _∙_}
@@ -12,11 +12,11 @@ use borrow.Author.Needs.{needs}
 use Rattle.arith.proofs.Bits.{widened}
 use Rattle.fixed.specs.declared.Pending.{Pending}
 use Rattle.fixed.specs.Start.{noPending}
-use Rattle.places.specs.State.{pendingNumbers}
+use Rattle.places.specs.States.{pendingNumbers}
 use Rattle.places.proofs.Pairs.{Put, put-none, put-next, put-all}
 use Rattle.places.proofs.Widths.{widens-32}
-use Rattle.places.proofs.state.write_pending.Statement.{statement}
-use Rattle.places.proofs.state.write_pending.Tie as tie
+use Rattle.places.proofs.states.write_pending.Statement.{statement}
+use Rattle.places.proofs.states.write_pending.Tie as tie
 
 abbrev Inv-loop : tie.InvT-loop
 Inv-loop state₀ pending n₀ state n = Put (λ (x : Pending). x .e) (λ (x : Pending). x .err) 138 139 24 pending state₀ n state

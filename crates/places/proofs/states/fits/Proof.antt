@@ -1,4 +1,4 @@
--- `places::state::fits` meets its contract: it asks for the number of places, then for their kinds, as the definition does.
+-- `places::states::fits` meets its contract: it asks for the number of places, then for their kinds, as the definition does.
 use mathlib.Core.Path.{refl, ap, _∙_}
 use mathlib.Core.List.{List}
 use lib.ListN.{length}
@@ -6,9 +6,9 @@ use Prim.Native.Nat.{ℕ}
 use borrow.Author.Needs.{needs}
 use borrow.Author.Tests.{eq-eqb, ne-eqb}
 use Rattle.kinds.specs.Kinds.{areKinds}
-use Rattle.places.specs.State.{stateFits}
-use Rattle.places.proofs.state.fits.Statement.{statement}
-use Rattle.places.proofs.state.fits.Tie as tie
+use Rattle.places.specs.States.{stateFits}
+use Rattle.places.proofs.states.fits.Statement.{statement}
+use Rattle.places.proofs.states.fits.Tie as tie
 
 returns : tie.Need-returns
 unfolding stateFits

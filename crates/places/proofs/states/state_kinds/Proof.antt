@@ -1,9 +1,9 @@
--- `places::state::state_kinds` meets its contract: the ten stores and the repeat compute to the definition's list.
+-- `places::states::state_kinds` meets its contract: the ten stores and the repeat compute to the definition's list.
 use mathlib.Core.Path.{refl}
 use borrow.Author.Needs.{needs}
-use Rattle.places.specs.State.{stateKinds}
-use Rattle.places.proofs.state.state_kinds.Statement.{statement}
-use Rattle.places.proofs.state.state_kinds.Tie as tie
+use Rattle.places.specs.States.{stateKinds}
+use Rattle.places.proofs.states.state_kinds.Statement.{statement}
+use Rattle.places.proofs.states.state_kinds.Tie as tie
 
 array-write-types : tie.Need-array-write-types
 array-write-types c = search needs

@@ -1,4 +1,4 @@
--- `places::state::write_line` meets its contract: after n turns the numbers of the first n pairs stand in the state's places from 10 on.
+-- `places::states::write_line` meets its contract: after n turns the numbers of the first n pairs stand in the state's places from 10 on.
 -- What is before them and behind them is as it was (Pairs, `Put`).
 use Prim.Native.Nat.{_-_}
 use mathlib.Core.Path.{refl}
@@ -12,8 +12,8 @@ use Rattle.fixed.specs.declared.Pair.{Pair}
 use Rattle.fixed.specs.Start.{noPair}
 use Rattle.places.proofs.Pairs.{Put, put-none, put-next, put-all}
 use Rattle.places.proofs.Widths.{widens-32}
-use Rattle.places.proofs.state.write_line.Statement.{statement}
-use Rattle.places.proofs.state.write_line.Tie as tie
+use Rattle.places.proofs.states.write_line.Statement.{statement}
+use Rattle.places.proofs.states.write_line.Tie as tie
 
 abbrev Inv-loop : tie.InvT-loop
 Inv-loop state₀ line n₀ state n = Put (λ (x : Pair). x .i) (λ (x : Pair). x .q) 10 11 64 line state₀ n state

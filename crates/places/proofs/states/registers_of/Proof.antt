@@ -1,13 +1,13 @@
--- `places::state::registers_of` meets its contract: each of the places has a number of its field's type (Readable), and the field is that number.
+-- `places::states::registers_of` meets its contract: each of the places has a number of its field's type (Readable), and the field is that number.
 use mathlib.Core.Path.{_∙_}
 use lib.Dec.{lit<}
 use mir.Syntax.{w64}
 use denote.Ref.{now}
 use Rattle.arith.proofs.Bits.{held}
-use Rattle.places.specs.State.{stateOf}
+use Rattle.places.specs.States.{stateOf}
 use Rattle.places.proofs.Readable.{state-at}
-use Rattle.places.proofs.state.registers_of.Statement.{statement}
-use Rattle.places.proofs.state.registers_of.Tie as tie
+use Rattle.places.proofs.states.registers_of.Statement.{statement}
+use Rattle.places.proofs.states.registers_of.Tie as tie
 
 u32-at-requires : tie.Need-u32-at-requires
 u32-at-requires c κs = state-at (now (c .args .state)) (c .pre) 0 (lit< tt)

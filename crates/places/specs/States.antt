@@ -83,13 +83,16 @@ firstNumbers f =
 unfoldable pub numbersOf : Frontend → List ℤ
 numbersOf f = firstNumbers f ++ (lineNumbers (f .line) ++ pendingNumbers (f .pending))
 
--- The counts of a state are small enough for places.
-unfoldable pub hasPlaces : Frontend → Bool
-hasPlaces f =
-    leb (f .registers .symbols) 9223372036854775807
-    && (leb (f .head) 9223372036854775807
-    && (leb (f .oldest) 9223372036854775807
-    && (leb (f .waiting) 9223372036854775807 && leb (f .samples) 9223372036854775807)))
+-- Counts that are small enough for places.
+unfoldable pub areCounts : ℕ → ℕ → ℕ → ℕ → ℕ → Bool
+areCounts symbols head oldest waiting samples =
+    leb symbols 9223372036854775807
+    && (leb head 9223372036854775807
+    && (leb oldest 9223372036854775807 && (leb waiting 9223372036854775807 && leb samples 9223372036854775807)))
+
+-- The counts of a state are.
+abbrev pub hasPlaces : Frontend → Bool
+hasPlaces f = areCounts (f .registers .symbols) (f .head) (f .oldest) (f .waiting) (f .samples)
 
 -- Writing a state: to 186 places, or 9 where there is another number of them, or where a count is too large for one.
 unfoldable pub stateWritten : Frontend → List ℤ → Answer

@@ -1,4 +1,4 @@
--- `places::state::pending_of` meets its contract: after n turns the first n places of the array hold the pairs of the state's places from 138 on.
+-- `places::states::pending_of` meets its contract: after n turns the first n places of the array hold the pairs of the state's places from 138 on.
 -- The whole is what those places make pair by pair (Pairs, `Taken`).
 use Prim.Native.Nat.{_+_, _*_, _-_}
 use mathlib.Core.Path.{refl}
@@ -12,8 +12,8 @@ use Rattle.fixed.specs.declared.Pending.{Pending}
 use Rattle.fixed.specs.Start.{noPending}
 use Rattle.places.proofs.Readable.{state-long, pair-at}
 use Rattle.places.proofs.Pairs.{Taken, taken-none, taken-next, taken-all}
-use Rattle.places.proofs.state.pending_of.Statement.{statement}
-use Rattle.places.proofs.state.pending_of.Tie as tie
+use Rattle.places.proofs.states.pending_of.Statement.{statement}
+use Rattle.places.proofs.states.pending_of.Tie as tie
 
 abbrev pair : ℤ → ℤ → Pending
 pair a b = record { e = a; err = b }

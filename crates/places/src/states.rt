@@ -11,8 +11,8 @@ ghost use mathlib.Core.Bool.{true};
 ghost use mathlib.Core.List.{_++_};
 ghost use lib.ListN.{length, take, drop};
 ghost use Rattle.fixed.specs.Start.{atRest};
-ghost use Rattle.places.specs.State.{stateKinds, stateFits, stateOf, readState, lineOf, pendingOf};
-ghost use Rattle.places.specs.State.{hasPlaces, firstNumbers, lineNumbers, pendingNumbers, numbersOf, stateWritten};
+ghost use Rattle.places.specs.States.{stateKinds, stateFits, stateOf, readState, lineOf, pendingOf};
+ghost use Rattle.places.specs.States.{areCounts, hasPlaces, firstNumbers, lineNumbers, pendingNumbers, stateWritten};
 
 // ---- from places
 
@@ -93,22 +93,6 @@ fn pending_of(state: &[i64]) -> [Pending; 24]
     pending
 }
 
-// The state that these places say.
-fn read(state: &[i64]) -> Frontend
-    requires { ⌜ stateFits (now state) ≡ true ⌝ }
-    ensures { λ r. ⌜ r ≡ stateOf (now (state .entry)) ⌝ }
-{
-    Frontend {
-        registers: registers_of(state),
-        line: line_of(state),
-        head: numbers::count_at(state, 6) as usize,
-        pending: pending_of(state),
-        oldest: numbers::count_at(state, 7) as usize,
-        waiting: numbers::count_at(state, 8) as usize,
-        samples: numbers::count_at(state, 9),
-    }
-}
-
 fn zeros() -> Frontend
     ensures { λ r. ⌜ r ≡ atRest 0 0 ⌝ }
 {
@@ -144,30 +128,37 @@ pub fn read_state(state: &[i64]) -> ReadState
     }
     ReadState {
         fits: true,
-        state: read(state),
+        state: Frontend {
+            registers: registers_of(state),
+            line: line_of(state),
+            head: numbers::count_at(state, 6) as usize,
+            pending: pending_of(state),
+            oldest: numbers::count_at(state, 7) as usize,
+            waiting: numbers::count_at(state, 8) as usize,
+            samples: numbers::count_at(state, 9),
+        },
     }
 }
 
 // ---- to places
 
 // Whether the counts of a state are small enough for places.
-fn has_places(f: Frontend) -> bool
-    ensures { λ r. ⌜ r ≡ hasPlaces f ⌝ }
+fn are_counts(symbols: u64, head: usize, oldest: usize, waiting: usize, samples: u64) -> bool
+    ensures { λ r. ⌜ r ≡ areCounts symbols head oldest waiting samples ⌝ }
 {
-    let r = f.registers;
-    if 0x7fff_ffff_ffff_ffff < r.symbols {
+    if 0x7fff_ffff_ffff_ffff < symbols {
         return false;
     }
-    if 0x7fff_ffff_ffff_ffff < f.head {
+    if 0x7fff_ffff_ffff_ffff < head {
         return false;
     }
-    if 0x7fff_ffff_ffff_ffff < f.oldest {
+    if 0x7fff_ffff_ffff_ffff < oldest {
         return false;
     }
-    if 0x7fff_ffff_ffff_ffff < f.waiting {
+    if 0x7fff_ffff_ffff_ffff < waiting {
         return false;
     }
-    f.samples <= 0x7fff_ffff_ffff_ffff
+    samples <= 0x7fff_ffff_ffff_ffff
 }
 
 fn write_first(f: Frontend, state: &mut [i64])
@@ -215,17 +206,6 @@ fn write_pending(pending: [Pending; 24], state: &mut [i64])
     }
 }
 
-fn write(f: Frontend, state: &mut [i64])
-    requires { ⌜ (length (now state) ≡ 186) × (hasPlaces f ≡ true) ⌝ }
-    ensures { λ _. ⌜ now (state .exit) ≡ numbersOf f ⌝ }
-{
-    let line = f.line;
-    let pending = f.pending;
-    write_first(f, &mut *state);
-    write_line(line, &mut *state);
-    write_pending(pending, &mut *state);
-}
-
 // Writes all places of a state, or answers 9 where there are not 186, or where a count has no place.
 pub fn write_state(f: Frontend, state: &mut [i64]) -> u32
     ensures { λ r. ⌜ record { number = r; places = now (state .exit) } ≡ stateWritten f (now (state .entry)) ⌝ }
@@ -233,9 +213,14 @@ pub fn write_state(f: Frontend, state: &mut [i64]) -> u32
     if state.len() != 186 {
         return 9;
     }
-    if !has_places(f) {
+    let r = f.registers;
+    if !are_counts(r.symbols, f.head, f.oldest, f.waiting, f.samples) {
         return 9;
     }
-    write(f, &mut *state);
+    let line = f.line;
+    let pending = f.pending;
+    write_first(f, &mut *state);
+    write_line(line, &mut *state);
+    write_pending(pending, &mut *state);
     0
 }

@@ -1,4 +1,4 @@
--- `places::state::line_of` meets its contract: after n turns the first n places of the array hold the pairs of the state's places from 10 on.
+-- `places::states::line_of` meets its contract: after n turns the first n places of the array hold the pairs of the state's places from 10 on.
 -- The whole is what those places make pair by pair (Pairs, `Taken`).
 use Prim.Native.Nat.{_+_, _*_, _-_}
 use mathlib.Core.Path.{refl}
@@ -12,8 +12,8 @@ use Rattle.fixed.specs.declared.Pair.{Pair}
 use Rattle.fixed.specs.Start.{noPair}
 use Rattle.places.proofs.Readable.{state-long, pair-at}
 use Rattle.places.proofs.Pairs.{Taken, taken-none, taken-next, taken-all}
-use Rattle.places.proofs.state.line_of.Statement.{statement}
-use Rattle.places.proofs.state.line_of.Tie as tie
+use Rattle.places.proofs.states.line_of.Statement.{statement}
+use Rattle.places.proofs.states.line_of.Tie as tie
 
 abbrev pair : ℤ → ℤ → Pair
 pair a b = record { i = a; q = b }
