@@ -1,16 +1,16 @@
 # make run       the main job, on the stored input
-# make test      the gate: the symbol program's cases, then all proofs, must-fail edits and programs from nothing
+# make test      the gate: all proofs, must-fail edits and programs from nothing, then the symbol program's cases
 # make symbols   proves and links the symbol program, target/bin/symbols
-# make cases     runs the symbol program on small inputs, refused and malformed ones among them
+# make cases     runs the symbol program on small inputs, refused and malformed ones among them, and the gate on stand-ins for rt
 # make oracle    compares this code with the Rust front end of isdb-rs
 # make bench     measures both in one run and prints how many times as fast this one is; with WRITE=1 it also writes docs/BENCH.md
-# make archive   writes target/staticlib/libarchive.a, for C and Rust to link
+# make archive   writes target/staticlib/libarchive.a, for C and Rust to link, and proves nothing where nothing has changed
 # make examples  runs an example in C, one in Rust and the symbol program on a recording, and compares their lists with the stored one
 # make bindings  tests the C header and the Rust bindings
 # make clean     removes all that was made
 #
-# Needed: the Rattle kit (its command rt) and a POSIX shell; for `make oracle` and `make bench` cargo, and the sources of isdb-rs at ISDB_RS; for `make examples`
-# and `make bindings` a C compiler and cargo.
+# Needed: the Rattle kit (its command rt) and a POSIX shell; for `make oracle` and `make bench` cargo, and the sources of isdb-rs at ISDB_RS; for
+# `make examples` and `make bindings` a C compiler and cargo. A crate is reported as it is proved; all that rt says is in target/*.out.
 RT ?= rt
 ISDB_RS ?= ../shared/docs/src
 
@@ -20,8 +20,7 @@ ISDB_RS ?= ../shared/docs/src
 
 run: kit
 	@echo "Proving and linking the symbol program, the replay programs and what they stand on (some minutes from nothing) .."
-	@mkdir -p target
-	@$(RT) check symbols replay_leaves replay_calls replay_floats >target/run.out 2>&1 || { tail -n 20 target/run.out; exit 1; }
+	@RT='$(RT)' sh tools/prove.sh target/run.out check symbols replay_leaves replay_calls replay_floats
 	@echo "The symbols of crates/symbols/stdin, a sheet, its banks and three pairs:"
 	@target/bin/symbols <crates/symbols/stdin
 	@echo "Replaying the answers of isdb-rs that are stored in crates/replay_*/stdin:"
@@ -29,26 +28,22 @@ run: kit
 	@target/bin/replay_calls <crates/replay_calls/stdin
 	@target/bin/replay_floats <crates/replay_floats/stdin
 
-# The cases come first: rt ci starts from nothing, and the last line is its own.
-test: cases
-	@$(RT) fmt --check
-	@$(RT) ci
+test: kit
+	@RT='$(RT)' sh tests/gate.sh
 
 symbols: kit
 	@echo "Proving and linking the symbol program and what it stands on, as target/bin/symbols .."
-	@mkdir -p target
-	@$(RT) check symbols >target/symbols.out 2>&1 || { tail -n 20 target/symbols.out; exit 1; }
+	@RT='$(RT)' sh tools/prove.sh target/symbols.out check symbols
 
 cases: symbols
 	@sh tests/symbols.sh target/bin/symbols
+	@sh tests/gate_cases.sh
 
 oracle: kit
 	@RT='$(RT)' ISDB_RS='$(ISDB_RS)' sh oracle/compare.sh
 
 archive: kit
-	@echo "Proving the archive and what it stands on, and writing target/staticlib/libarchive.a .."
-	@mkdir -p target
-	@$(RT) staticlib archive >target/archive.out 2>&1 || { tail -n 20 target/archive.out; exit 1; }
+	@RT='$(RT)' sh tools/archive.sh
 
 bench: archive symbols
 	@RT='$(RT)' ISDB_RS='$(ISDB_RS)' WRITE='$(WRITE)' sh bench/measure.sh

@@ -35,11 +35,12 @@ code=$(git describe --always --dirty 2>/dev/null || echo 'not in a repository')
 | kit | $($RT version) |
 | isdb-rs | commit 754ed06c49, by $(rustc --version), opt-level 3 |
 
-One program measures both sides in one run, on the same input: noise of 12 bits, under a sheet of ISDB-S (40 MHz, 28.86 Mbaud, roll-off 0.35). Each figure is the least of nine rounds, in which the two take
-turns; isdb-rs's \`Frontend::process\` and \`Params::validate\` are called as they are, this code through the archive. A block of 1 is a call for each pair.
+One program measures both sides in one run, on the same input: noise of 12 bits, under a sheet of ISDB-S (40 MHz, 28.86 Mbaud, roll-off 0.35). Each figure
+is the least of nine rounds, in which the two take turns; isdb-rs's \`Frontend::process\` and \`Params::validate\` are called as they are, this code
+through the archive. A block of 1 is a call for each pair.
 
-The last line is of whole programs, from start to end, the least of five rounds: \`oracle symbols\` (oracle/driver), a plain program over isdb-rs, and the symbol program. Both read the same file of a million pairs and write to /dev/null;
-before they are measured they have to print the same list.
+The last line is of whole programs, from start to end, the least of five rounds: \`oracle symbols\` (oracle/driver), a plain program over isdb-rs, and the
+symbol program. Both read the same file of a million pairs and write to /dev/null; before they are measured they have to print the same list.
 
 What counts is the ratio: how many times as fast this code is.
 

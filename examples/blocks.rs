@@ -1,7 +1,7 @@
 //! blocks FILE: the symbols of a recording, taken as a catalogue takes them, in blocks.
 //!
 //! The file is what the symbol program reads: a line with the 17 fields of a sheet, 64 rows of each of the banks h, g and k, then a pair I,Q a line, all in
-//! decimal and parted by commas. It prints each symbol's 20 places and then the end line, as the symbol program does. What is wrong is told on standard
+//! decimal and separated by commas. It prints each symbol's 20 places and then the end line, as the symbol program does. What is wrong goes to standard
 //! error, with the line, and the exit status is then 1.
 
 use huntelm::{Frontend, Params, Refusal, Symbol};
@@ -161,7 +161,7 @@ impl Recording {
         match numbers {
             Some(numbers) if numbers.len() == count => Ok(Some(numbers)),
             _ => Err(self.fault(format_args!(
-                "not {count} decimal numbers, parted by commas"
+                "not {count} decimal numbers, separated by commas"
             ))),
         }
     }

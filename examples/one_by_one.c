@@ -2,7 +2,7 @@
  * one_by_one FILE: the symbols of a recording, taken as a receiver's firmware takes them, one sample after another.
  *
  * The file is what the symbol program reads: a line with the 17 fields of a sheet, 64 rows of each of the banks h, g and k, then a pair I,Q a line, all in
- * decimal and parted by commas. It prints each symbol's 20 places and then the end line, as the symbol program does. What is wrong is told on standard
+ * decimal and separated by commas. It prints each symbol's 20 places and then the end line, as the symbol program does. What is wrong goes to standard
  * error, with the line, and the exit status is then 1.
  */
 #include "huntelm.h"
@@ -72,7 +72,7 @@ static int read_number(const char **text, int64_t *number) {
     return 1;
 }
 
-/* Reads a line of so many numbers. Answers 1, 0 at the end of the file, and -1 where the line is none, which it tells. */
+/* Reads a line of so many numbers. Answers 1, 0 at the end of the file, and -1 where the line is none, which it reports. */
 static int read_line(struct recording *r, int64_t *numbers, size_t count) {
     char line[LONGEST + 2];
     const char *at = line;
@@ -88,7 +88,7 @@ static int read_line(struct recording *r, int64_t *numbers, size_t count) {
         if (!read_number(&at, &numbers[n])) break;
     }
     if (n < count || *at != '\n') {
-        fprintf(stderr, "%s:%ld: not %zu decimal numbers, parted by commas\n", r->name, r->line, count);
+        fprintf(stderr, "%s:%ld: not %zu decimal numbers, separated by commas\n", r->name, r->line, count);
         return -1;
     }
     return 1;

@@ -12,9 +12,14 @@
  *   a symbol    20 places (enum huntelm_symbol_place)
  * Every buffer is a pointer and a length, and a length counts elements, not bytes.
  *
+ * What a period says
+ *   The period of one symbol, or of a state, has the loop's correction for one noisy error in it, and jumps by thousands of parts in a million from symbol to
+ *   symbol. How far the sender's clock and the recorder's are apart is said by the mean of the periods of thousands of symbols, once the loop has locked.
+ *   That it has locked no call says: look at the spread of the output's size (docs/GUIDE.md).
+ *
  * What the calls owe you
  *   No values and no lengths are wrong to call with. Whatever is lent, a call answers, and where something is wrong it answers the number of the
- *   refusal (enum huntelm_refusal). Of several faults the first in the order that a call's comment has is told. A call that refuses has written nothing.
+ *   refusal (enum huntelm_refusal). Of several faults it is the first in the order that a call's comment has. A call that refuses has written nothing.
  *   All this is proved of the code, for every input.
  *
  * What you owe the calls
@@ -64,7 +69,7 @@ enum huntelm_refusal {
     HUNTELM_REFUSED_STATE = 9,               /* not 186 places, a number that its place does not take, or a position, count or register outside its bounds
                                                 under the sheet */
     HUNTELM_REFUSED_ODD_INPUT = 10,          /* an odd number of sample values, or of floats */
-    HUNTELM_REFUSED_SHORT_OUTPUT = 11,       /* fewer places than the answer may take */
+    HUNTELM_REFUSED_SHORT_OUTPUT = 11,       /* fewer places than the answer may take; of a state at the start that is 9 */
     HUNTELM_REFUSED_TOO_MANY_SAMPLES = 12,   /* more than 2^63 - 1 samples in all */
 
     /* Of an offset. */
@@ -115,7 +120,7 @@ enum huntelm_symbol_place {
     HUNTELM_SYMBOL_YK_I = 6,   /* what bank k gives */
     HUNTELM_SYMBOL_YK_Q = 7,
     HUNTELM_SYMBOL_GAIN = 8,   /* the gain in force, 1024 for a gain of 1 */
-    HUNTELM_SYMBOL_PERIOD = 9, /* the period in force, 2^24 to the sample */
+    HUNTELM_SYMBOL_PERIOD = 9, /* the period in force, 2^24 to the sample; for a clock take the mean over thousands of symbols */
     HUNTELM_SYMBOL_Z_I = 10,   /* y, dy and yk times the gain */
     HUNTELM_SYMBOL_Z_Q = 11,
     HUNTELM_SYMBOL_DZ_I = 12,
@@ -133,7 +138,7 @@ enum huntelm_state_place {
     HUNTELM_STATE_NCO = 0,      /* phase of the mixer, 2^32 to the turn */
     HUNTELM_STATE_T = 1,        /* how far behind the next sample the next symbol lies, 2^24 to the sample */
     HUNTELM_STATE_V = 2,        /* the loop's integrator */
-    HUNTELM_STATE_PERIOD = 3,
+    HUNTELM_STATE_PERIOD = 3,   /* the period of the last symbol, 2^24 to the sample */
     HUNTELM_STATE_GAIN_ACC = 4, /* gain accumulator, 256 times the gain */
     HUNTELM_STATE_SYMBOLS = 5,  /* symbols so far */
     HUNTELM_STATE_HEAD = 6,     /* where the newest pair of the line stands */
@@ -146,9 +151,9 @@ enum huntelm_state_place {
 
 /* What huntelm_read writes. */
 enum huntelm_read_place {
-    HUNTELM_READ_PERIOD = 0,
-    HUNTELM_READ_GAIN = 1,
-    HUNTELM_READ_SYMBOLS = 2
+    HUNTELM_READ_PERIOD = 0, /* the period of the last symbol, 2^24 to the sample; no measure of a clock (see above) */
+    HUNTELM_READ_GAIN = 1,   /* the gain, 1024 for a gain of 1 */
+    HUNTELM_READ_SYMBOLS = 2 /* symbols so far */
 };
 
 /* The rates of a design. */
@@ -202,7 +207,8 @@ int64_t huntelm_block(const int64_t *sheet, size_t sheet_len, const int32_t *h, 
                       int64_t *state, size_t state_len, const int16_t *values, size_t values_len, int64_t *out, size_t out_len);
 
 /*
- * Writes period, gain and number of symbols of a state to the first three places of answer (enum huntelm_read_place). Answers 0.
+ * Writes period, gain and number of symbols of a state to the first three places of answer (enum huntelm_read_place). Answers 0. The period is that of one
+ * symbol, and says nothing of a clock.
  *
  * Refusals, in order: 18, 19, 1 to 8; 9; 11 answer_len is below 3.
  */
@@ -210,7 +216,8 @@ uint32_t huntelm_read(const int64_t *sheet, size_t sheet_len, const int32_t *h, 
                       const int64_t *state, size_t state_len, int64_t *answer, size_t answer_len);
 
 /*
- * Writes how far a period is from the nominal one, in parts per thousand million, rounded down, to the first place of answer. Answers 0.
+ * Writes how far a period is from the nominal one, in parts per thousand million, rounded down, to the first place of answer. Answers 0. Ask it for the mean of
+ * the periods of thousands of symbols; for the period of one symbol or of a reading the answer says nothing of a clock.
  *
  * Refusals, in order: 18, 19, 1 to 8; 13; 11 answer_len is 0.
  */

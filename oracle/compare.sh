@@ -4,12 +4,13 @@
 set -eu
 cd "$(dirname "$0")/.."
 : "${RT:=rt}" "${ISDB_RS:=../shared/docs/src}" "${SCALE:=1}" "${STEP:=16}"
+export RT
 source=$ISDB_RS/crates/isdb-frontend/src
 work=target/oracle
 
 absent() {
     echo "oracle: $1"
-    echo "oracle: nothing was compared. Without the Rust every answer rests on the definitions in specs/ alone, which were written from document 01;"
+    echo "oracle: nothing was compared. Without the Rust every answer rests on the definitions in specs/ alone, which say what docs/RULES.md says;"
     echo "oracle: what is stored of the Rust's answers in crates/replay_*/stdin is still replayed by make test."
     exit 1
 }
@@ -26,8 +27,8 @@ for profile in release checked; do
     (cd oracle && cargo build --offline --quiet --profile $profile)
 done
 echo "oracle: proving and linking the replay programs, the symbol program and the archive .."
-$RT check replay_leaves replay_calls replay_floats symbols >"$work/check.out" 2>&1 || { tail -n 20 "$work/check.out"; exit 1; }
-$RT staticlib archive >"$work/archive.out" 2>&1 || { tail -n 20 "$work/archive.out"; exit 1; }
+sh tools/prove.sh "$work/check.out" check replay_leaves replay_calls replay_floats symbols
+sh tools/archive.sh
 (cd oracle/archive && cargo build --offline --quiet --release)
 rust=oracle/target/release/oracle
 checked=oracle/target/checked/oracle
@@ -86,7 +87,7 @@ done
 # Floats: the samples of one in 16 of all 2^32 f32, and of all near a tie, a whole number or an end of what an f32 can be; STEP=1 takes every f32.
 replayed "float samples, one f32 in $STEP and all that stand out" replay_floats samples "$STEP"
 
-# Designs at every corner, strange ones and ordinary ones, wherever isdb-rs answers with registers or a refusal of document 01; and designs that are judged with banks and gains.
+# Designs at every corner, strange ones and ordinary ones, wherever isdb-rs answers with registers or a refusal of RULES 6.3; and designs that are judged with banks and gains.
 replayed "registers of designs" replay_floats floats designs 1 $((52000 * SCALE))
 replayed "sheets of designs, judged" replay_floats floats sheets 1 $((4000 * SCALE))
 replayed "sheets of designs, judged, few taps" replay_floats floats small 1 $((10000 * SCALE))

@@ -1,5 +1,5 @@
 #!/bin/sh
-# symbols.sh [PROGRAM]: runs the symbol program on inputs that are made here and compares what it prints with what document 01 asks for.
+# symbols.sh [PROGRAM]: runs the symbol program on inputs that are made here and compares what it prints with what docs/RULES.md, 7, asks for.
 # Prints 'N cases, M wrong', and before it each case that is wrong. Needs nothing but a POSIX shell and its usual tools.
 set -u
 program=${1:-target/bin/symbols}

@@ -3,7 +3,8 @@
 
 mod programs;
 
-use archive_calls::{STATE, SYMBOL, Sheet};
+use archive_calls::Sheet;
+use huntelm::archive::{STATE, SYMBOL};
 use isdb_frontend::fixed::{Frontend, Symbol};
 use isdb_frontend::params::{Design, Params};
 use oracle::sheet::Sheet as Fields;
@@ -122,7 +123,7 @@ fn block_times(p: &Params, block: usize) -> (f64, f64) {
     let mut symbols: Vec<Symbol> = Vec::with_capacity(block);
     let sheet = Sheet::from(&Fields::designed(p));
     let mut state = [0; STATE];
-    assert_eq!(sheet.start(&mut state), 0);
+    assert_eq!(sheet.lent().start(&mut state), 0);
     let mut out = vec![0; SYMBOL * block];
     least_each(
         pairs,
@@ -135,7 +136,7 @@ fn block_times(p: &Params, block: usize) -> (f64, f64) {
         },
         || {
             for x in values.chunks(2 * block) {
-                let count = sheet.block(&mut state, x, &mut out);
+                let count = sheet.lent().block(&mut state, x, &mut out);
                 assert!(count >= 0);
                 black_box(&out);
             }
@@ -155,7 +156,7 @@ fn judge_times(p: &Params) -> (f64, f64) {
         },
         || {
             for _ in 0..TIMES {
-                assert_eq!(black_box(&sheet).judge(), 0);
+                assert_eq!(black_box(&sheet).lent().judge(), 0);
             }
         },
     )

@@ -1,11 +1,12 @@
-//! The archive's calls over slices. All `unsafe` of the crate is here.
+//! The archive's calls as they are, over slices of any length: what include/huntelm.h has for C. [`Params`](crate::Params) and
+//! [`Frontend`](crate::Frontend) stand above them and are what a program needs; the calls are for those who keep sheets and states as places, or who test
+//! the archive. A call answers 0 or the number of a refusal, and `block` the number of its symbols or the refusal's number below zero; where it refuses,
+//! no place that it was lent is changed.
 //!
-//! Each call asks two things of its caller: a pointer is good for its length, and what is lent for writing overlaps nothing else that is lent. A slice
-//! gives the first, and Rust's borrows the second: a `&mut` beside other references. Nothing else can be wrong, since a call answers whatever values
-//! and lengths it is lent. It keeps no pointer and does not unwind. So every function here is safe for every argument.
+//! All `unsafe` of the crate is here. Each call asks two things of its caller: a pointer is good for its length, and what is lent for writing overlaps
+//! nothing else that is lent. A slice gives the first, and Rust's borrows the second: a `&mut` beside other references. Nothing else can be wrong, since
+//! a call answers whatever values and lengths it is lent. It keeps no pointer and does not unwind. So every function here is safe for every argument.
 #![allow(unsafe_code)]
-
-use crate::Refusal;
 
 /// Places of a sheet.
 pub const SHEET: usize = 17;
@@ -17,8 +18,8 @@ pub const STATE: usize = 186;
 pub const SYMBOL: usize = 20;
 
 /// The places of a state that are read here. The others are the archive's alone.
-pub const STATE_T: usize = 1;
-pub const STATE_SAMPLES: usize = 9;
+pub(crate) const STATE_T: usize = 1;
+pub(crate) const STATE_SAMPLES: usize = 9;
 
 unsafe extern "C" {
     fn huntelm_judge(
@@ -109,18 +110,23 @@ unsafe extern "C" {
 }
 
 /// A sheet's places and its banks, as the calls are lent them.
-#[derive(Clone, Copy)]
+#[derive(Debug, Clone, Copy)]
 pub struct Sheet<'a> {
+    /// The 17 fields, in the order of [`Params`](crate::Params).
     pub places: &'a [i64],
+    /// Bank h, row by row.
     pub h: &'a [i32],
+    /// Bank g, likewise.
     pub g: &'a [i32],
+    /// Bank k, likewise.
     pub k: &'a [i32],
 }
 
 impl Sheet<'_> {
-    pub fn judge(self) -> Result<(), Refusal> {
+    /// Judges the sheet.
+    pub fn judge(self) -> u32 {
         // SAFETY: slices, none of them for writing.
-        accepted(unsafe {
+        unsafe {
             huntelm_judge(
                 self.places.as_ptr(),
                 self.places.len(),
@@ -131,12 +137,13 @@ impl Sheet<'_> {
                 self.k.as_ptr(),
                 self.k.len(),
             )
-        })
+        }
     }
 
-    pub fn start(self, state: &mut [i64]) -> Result<(), Refusal> {
+    /// Writes a fresh state.
+    pub fn start(self, state: &mut [i64]) -> u32 {
         // SAFETY: slices; the one for writing is a `&mut`.
-        accepted(unsafe {
+        unsafe {
             huntelm_start(
                 self.places.as_ptr(),
                 self.places.len(),
@@ -149,18 +156,13 @@ impl Sheet<'_> {
                 state.as_mut_ptr(),
                 state.len(),
             )
-        })
+        }
     }
 
-    /// How many symbols the block wrote to `out`.
-    pub fn block(
-        self,
-        state: &mut [i64],
-        values: &[i16],
-        out: &mut [i64],
-    ) -> Result<usize, Refusal> {
+    /// Takes the values I and Q in turn, takes the state on, and writes the symbols to `out`.
+    pub fn block(self, state: &mut [i64], values: &[i16], out: &mut [i64]) -> i64 {
         // SAFETY: slices; the two for writing are `&mut`.
-        let answer = unsafe {
+        unsafe {
             huntelm_block(
                 self.places.as_ptr(),
                 self.places.len(),
@@ -177,19 +179,13 @@ impl Sheet<'_> {
                 out.as_mut_ptr(),
                 out.len(),
             )
-        };
-        if answer < 0 {
-            return Err(Refusal::answered(answer.unsigned_abs()));
         }
-        // Not more than the pairs of a slice.
-        Ok(answer as usize)
     }
 
-    /// Period, gain and number of symbols.
-    pub fn read(self, state: &[i64]) -> Result<[i64; 3], Refusal> {
-        let mut answer = [0; 3];
+    /// Writes a state's period, its gain and its number of symbols.
+    pub fn read(self, state: &[i64], answer: &mut [i64]) -> u32 {
         // SAFETY: slices; the one for writing is a `&mut`.
-        accepted(unsafe {
+        unsafe {
             huntelm_read(
                 self.places.as_ptr(),
                 self.places.len(),
@@ -204,14 +200,13 @@ impl Sheet<'_> {
                 answer.as_mut_ptr(),
                 answer.len(),
             )
-        })?;
-        Ok(answer)
+        }
     }
 
-    pub fn offset(self, period: u32) -> Result<i64, Refusal> {
-        let mut answer = [0];
+    /// Writes how far a period is from the nominal one.
+    pub fn offset(self, period: u32, answer: &mut [i64]) -> u32 {
         // SAFETY: slices; the one for writing is a `&mut`.
-        accepted(unsafe {
+        unsafe {
             huntelm_offset(
                 self.places.as_ptr(),
                 self.places.len(),
@@ -225,55 +220,57 @@ impl Sheet<'_> {
                 answer.as_mut_ptr(),
                 answer.len(),
             )
-        })?;
-        Ok(answer[0])
+        }
     }
 }
 
-pub fn sample(floats: &[f32], values: &mut [i16]) -> Result<(), Refusal> {
+/// Writes the values of float samples, I and Q in turn.
+pub fn sample(floats: &[f32], values: &mut [i16]) -> u32 {
     // SAFETY: slices; the one for writing is a `&mut`.
-    accepted(unsafe {
+    unsafe {
         huntelm_sample(
             floats.as_ptr(),
             floats.len(),
             values.as_mut_ptr(),
             values.len(),
         )
-    })
+    }
 }
 
-/// The places of the sheet that a design makes.
-pub fn design(
-    rates: &[f64],
-    fields: &[i64],
-    h: &[i32],
-    g: &[i32],
-    k: &[i32],
-) -> Result<[i64; SHEET], Refusal> {
-    let mut sheet = [0; SHEET];
-    // SAFETY: slices; the one for writing is a `&mut`.
-    accepted(unsafe {
-        huntelm_design(
-            rates.as_ptr(),
-            rates.len(),
-            fields.as_ptr(),
-            fields.len(),
-            h.as_ptr(),
-            h.len(),
-            g.as_ptr(),
-            g.len(),
-            k.as_ptr(),
-            k.len(),
-            sheet.as_mut_ptr(),
-            sheet.len(),
-        )
-    })?;
-    Ok(sheet)
+/// A design's places and its banks, as the call is lent them.
+#[derive(Debug, Clone, Copy)]
+pub struct Design<'a> {
+    /// sample_rate, symbol_rate, carrier_offset, trim and agc_rms.
+    pub rates: &'a [f64],
+    /// taps, bits, block_log2, kp, kp_shift, ki, ki_shift and q_shift.
+    pub fields: &'a [i64],
+    /// Bank h, row by row.
+    pub h: &'a [i32],
+    /// Bank g, likewise.
+    pub g: &'a [i32],
+    /// Bank k, likewise.
+    pub k: &'a [i32],
 }
 
-fn accepted(number: u32) -> Result<(), Refusal> {
-    match number {
-        0 => Ok(()),
-        _ => Err(Refusal::answered(number.into())),
+impl Design<'_> {
+    /// Writes the places of the sheet that the design makes.
+    pub fn sheet(self, sheet: &mut [i64]) -> u32 {
+        // SAFETY: slices; the one for writing is a `&mut`.
+        unsafe {
+            huntelm_design(
+                self.rates.as_ptr(),
+                self.rates.len(),
+                self.fields.as_ptr(),
+                self.fields.len(),
+                self.h.as_ptr(),
+                self.h.len(),
+                self.g.as_ptr(),
+                self.g.len(),
+                self.k.as_ptr(),
+                self.k.len(),
+                sheet.as_mut_ptr(),
+                sheet.len(),
+            )
+        }
     }
 }

@@ -21,7 +21,8 @@ pub struct Symbol {
     pub yk: [i16; 2],
     /// The gain in force, 1024 for a gain of 1.
     pub gain: u16,
-    /// The period in force, 2^24 to the sample.
+    /// The period in force, 2^24 to the sample. It has the correction for one noisy error in it: how far the clocks are apart is said by the mean
+    /// over thousands of symbols, see [`Params::offset`].
     pub period: u32,
     /// `y` times the gain.
     pub z: [i16; 2],
@@ -108,7 +109,7 @@ impl Frontend {
     pub fn new(params: Params) -> Result<Self, Refusal> {
         let sheet = params.places();
         let mut state = [0; STATE];
-        params.sheet(&sheet).start(&mut state)?;
+        Refusal::check(params.sheet(&sheet).start(&mut state))?;
         Ok(Self {
             params,
             sheet,
@@ -127,7 +128,7 @@ impl Frontend {
     pub fn push(&mut self, sample: [i16; 2]) -> Result<Option<Symbol>, Refusal> {
         let mut place = [0; SYMBOL];
         let sheet = self.params.sheet(&self.sheet);
-        let symbols = sheet.block(&mut self.state, &sample, &mut place)?;
+        let symbols = Refusal::check_count(sheet.block(&mut self.state, &sample, &mut place))?;
         Ok((symbols == 1).then(|| Symbol::of(&place)))
     }
 
@@ -161,7 +162,8 @@ impl Frontend {
             self.out.resize(room, 0);
         }
         let sheet = self.params.sheet(&self.sheet);
-        let symbols = sheet.block(&mut self.state, samples.as_flattened(), &mut self.out)?;
+        let count = sheet.block(&mut self.state, samples.as_flattened(), &mut self.out);
+        let symbols = Refusal::check_count(count)?;
         let (places, _) = self.out[..SYMBOL * symbols].as_chunks();
         out.extend(places.iter().map(Symbol::of));
         Ok(())
@@ -172,7 +174,7 @@ impl Frontend {
         &self.params
     }
 
-    /// The period, 2^24 to the sample.
+    /// The period of the last symbol, 2^24 to the sample; no measure of a clock, see [`Params::offset`].
     pub fn period(&self) -> u32 {
         self.read()[0] as u32
     }
@@ -198,10 +200,14 @@ impl Frontend {
     }
 
     fn read(&self) -> [i64; 3] {
-        self.params
-            .sheet(&self.sheet)
-            .read(&self.state)
-            .expect("a state that starting or a block has written is never refused")
+        let mut answer = [0; 3];
+        Refusal::check(
+            self.params
+                .sheet(&self.sheet)
+                .read(&self.state, &mut answer),
+        )
+        .expect("a state that starting or a block has written is never refused");
+        answer
     }
 }
 
@@ -262,7 +268,7 @@ mod tests {
         let places = p.places();
         let sheet = p.sheet(&places);
         let mut fresh = [7; STATE];
-        sheet.start(&mut fresh).unwrap();
+        assert_eq!(sheet.start(&mut fresh), 0);
         for (length, values, places, refusal) in [
             (STATE - 1, 2, 20, Refusal::State),
             (STATE, 3, 60, Refusal::OddInput),
@@ -272,7 +278,7 @@ mod tests {
             let mut out = vec![-3; places];
             assert_eq!(
                 sheet.block(&mut state[..length], &vec![9; values], &mut out),
-                Err(refusal)
+                -i64::from(refusal.number())
             );
             assert_eq!((state, out), (fresh, vec![-3; places]));
         }
@@ -285,7 +291,7 @@ mod tests {
         let good = p.places();
         let refused = |places: &[i64]| {
             let here = Params::from_places(places, p.h.clone(), p.g.clone(), p.k.clone()).err();
-            let there = p.sheet(places).judge().err();
+            let there = Refusal::check(p.sheet(places).judge()).err();
             assert_eq!(here, there.filter(|r| r.number() >= 18), "{places:?}");
             here
         };

@@ -1,6 +1,6 @@
 //! Float samples.
 
-use crate::archive;
+use crate::{Refusal, archive};
 
 /// A float sample as the front end takes it, I then Q: each component times 2048, rounded to the nearest with ties away from zero, clamped
 /// to −2048..2047, a NaN to 0.
@@ -10,6 +10,7 @@ use crate::archive;
 /// ```
 pub fn input_sample(sample: [f32; 2]) -> [i16; 2] {
     let mut values = [0; 2];
-    archive::sample(&sample, &mut values).expect("two floats and two places are never refused");
+    Refusal::check(archive::sample(&sample, &mut values))
+        .expect("two floats and two places are never refused");
     values
 }

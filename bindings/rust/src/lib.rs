@@ -42,7 +42,7 @@
 //! # Ok::<(), huntelm::Refusal>(())
 //! ```
 
-mod archive;
+pub mod archive;
 mod frontend;
 mod input;
 mod params;

@@ -94,16 +94,29 @@ impl Params {
     ///
     /// 1 to 8, the first that applies.
     pub fn validate(&self) -> Result<(), Refusal> {
-        self.sheet(&self.places()).judge()
+        Refusal::check(self.sheet(&self.places()).judge())
     }
 
     /// How far a period is from the nominal one, in parts per thousand million, rounded down.
+    ///
+    /// The period of one symbol has the loop's correction for one noisy error in it and jumps by thousands of parts in a million; its offset says nothing
+    /// of a clock. Ask for the mean of the periods of thousands of symbols, once the loop has locked:
+    ///
+    /// ```
+    /// # use huntelm::{Params, Refusal, Symbol};
+    /// fn clock_offset(params: &Params, symbols: &[Symbol]) -> Result<i64, Refusal> {
+    ///     let sum: u64 = symbols.iter().map(|s| u64::from(s.period)).sum();
+    ///     params.offset((sum / symbols.len() as u64) as u32)
+    /// }
+    /// ```
     ///
     /// # Errors
     ///
     /// 1 to 8 as [`validate`](Self::validate) has them, then 13 for a period outside period_min..period_max.
     pub fn offset(&self, period: u32) -> Result<i64, Refusal> {
-        self.sheet(&self.places()).offset(period)
+        let mut answer = [0];
+        Refusal::check(self.sheet(&self.places()).offset(period, &mut answer))?;
+        Ok(answer[0])
     }
 
     /// The parameters of a design, with banks and gains that the caller has chosen. They are judged too.
@@ -156,7 +169,15 @@ impl Params {
             gains.ki_shift.into(),
             gains.q_shift.into(),
         ];
-        let places = archive::design(&rates, &fields, &h, &g, &k)?;
+        let design = archive::Design {
+            rates: &rates,
+            fields: &fields,
+            h: &h,
+            g: &g,
+            k: &k,
+        };
+        let mut places = [0; SHEET];
+        Refusal::check(design.sheet(&mut places))?;
         Self::from_places(&places, h, g, k)
     }
 

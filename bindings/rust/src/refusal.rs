@@ -94,8 +94,25 @@ impl Refusal {
         ALL.get(place).copied()
     }
 
-    /// The refusal that the archive answered.
-    pub(crate) fn answered(number: u64) -> Self {
+    /// What a call answered: 0, or a refusal's number.
+    pub(crate) fn check(answer: u32) -> Result<(), Self> {
+        match answer {
+            0 => Ok(()),
+            number => Err(Self::answered(number.into())),
+        }
+    }
+
+    /// What a block answered: how many symbols it wrote, or a refusal's number below zero.
+    pub(crate) fn check_count(answer: i64) -> Result<usize, Self> {
+        match answer {
+            // Not more than the pairs of a slice.
+            0.. => Ok(answer as usize),
+            _ => Err(Self::answered(answer.unsigned_abs())),
+        }
+    }
+
+    /// The refusal of this number.
+    fn answered(number: u64) -> Self {
         u32::try_from(number)
             .ok()
             .and_then(Self::from_number)

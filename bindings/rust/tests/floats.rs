@@ -109,7 +109,7 @@ fn refused_designs() {
     for trim in [0.6, -0.6, f64::NAN] {
         refused(Refusal::Trim, &|d| d.trim = trim);
     }
-    // The first fault in the order of the numbers 14 to 17 is told, and then those of the sheet.
+    // The first fault in the order of the numbers 14 to 17 is the answer, and then those of the sheet.
     refused(Refusal::DesignBits, &|d| (d.trim, d.bits) = (f64::NAN, 0));
     refused(Refusal::BankLength, &|d| d.taps = 14);
     refused(Refusal::PeriodBounds, &|d| {

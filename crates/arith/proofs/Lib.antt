@@ -5,4 +5,6 @@ pub mod Products
 pub mod Bits
 pub mod Rounding
 pub mod Modulus
+pub mod Widths
+pub mod Tested
 pub mod Both

@@ -8,7 +8,7 @@ use lib.Dec.{T, ltb, ltb→lt, nltb→le}
 use lib.Pow.{shr-mono}
 use lib.IntN.{ℤ, pos, negsuc, negℤ, natAbs, subℕ, _+ℤ_, _-ℤ_, _*ℤ_}
 use lib.Signed.{mag, ltZ, shrZ}
-use Rattle.arith.specs.Arith.{clampZ}
+use Rattle.arith.specs.Arith.{clampZ, orZero}
 
 -- a choice has what both of its sides have
 pub by-cond {ℓ} : {A : Type ℓ} (Q : A → Type 0) (c : Bool) (x y : A) → (T c → Q x) → (T (not c) → Q y) → Q (cond c x y)
@@ -89,3 +89,13 @@ clamp-abs = clamp-by natAbs mag-abs (λ a b h. h) (λ a b h. omega arith)
 
 pub clamp-mag : (v lo hi : ℤ) (B : ℕ) → mag lo ≤ B → mag hi ≤ B → mag (clampZ v lo hi) ≤ B
 clamp-mag = clamp-by mag (λ z. le-refl (mag z)) (λ a b h. h) (λ a b h. h)
+
+-- what is kept of a number between two ends is no larger than they are: where it is not 0, a clamp leaves it too
+pub or-zero-mag : (v lo hi : ℤ) (B : ℕ) → mag lo ≤ B → mag hi ≤ B → mag (orZero v lo hi) ≤ B
+unfolding orZero clampZ
+or-zero-mag v lo hi B p q = go (ltZ v lo) (ltZ hi v) (clamp-mag v lo hi B p q)
+  where
+    go : (a b : Bool) → mag (cond a lo (cond b hi v)) ≤ B → mag (cond a (pos 0) (cond b (pos 0) v)) ≤ B
+    go true b h = omega arith
+    go false true h = omega arith
+    go false false h = h

@@ -131,6 +131,16 @@ clamp-between v lo hi o = go (ltZ v lo) refl (ltZ hi v) refl
     go false e true f = rw (e, f) (record { low = o; high = pn-le hi hi (omega arith) })
     go false e false f = rw (e, f) (record { low = pn-le lo v (ge-pn v lo e); high = pn-le v hi (ge-pn hi v f) })
 
+-- a number between the ends already is left as it is
+pub clamp-inside : (v lo hi : ℤ) → P lo + N v ≤ P v + N lo → P v + N hi ≤ P hi + N v → clampZ v lo hi ≡ v
+unfolding clampZ
+clamp-inside v lo hi low high = go (ltZ v lo) refl (ltZ hi v) refl
+  where
+    go : (a : Bool) → ltZ v lo ≡ a → (b : Bool) → ltZ hi v ≡ b → cond (ltZ v lo) lo (cond (ltZ hi v) hi v) ≡ v
+    go true e b f = absurd (omega (arith, lt-pn v lo e))
+    go false e true f = absurd (omega (arith, lt-pn hi v f))
+    go false e false f = rw (e, f) refl
+
 -- between two numbers that are not below zero, as one that is not
 pub between-nat : (lo hi : ℕ) (z : ℤ) → Between (pos lo) (pos hi) z → (lo ≤ natAbs z) × (natAbs z ≤ hi)
 between-nat lo hi (pos n) b = (leb-true lo n (b .low), leb-true n hi (b .high))

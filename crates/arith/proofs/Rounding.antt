@@ -12,6 +12,7 @@ use mir.Val.{SFits}
 use borrow.Author.Tests.{ne-eqb}
 use Rattle.arith.specs.Arith.{roundShift}
 use Rattle.arith.proofs.Magnitude.{by-sub, abs-neg, abs-shr}
+use Rattle.arith.proofs.Bits.{shr-fits}
 use Rattle.arith.proofs.Order.{eq-pn, minus-pn, neg-P, neg-N}
 
 -- ---- half of a number, rounded up
@@ -77,6 +78,12 @@ unfolding roundShift
 round-abs v zero = le-refl (natAbs v)
 round-abs v (suc s) =
     rw (round-halves v (suc s) (omega arith)) (omega (arith, upper-abs (shrZ v (2 ^ (suc s - 1))), abs-shr v (2 ^ (suc s - 1))))
+
+-- and what fits a width still does
+pub round-fits : {w : Width} {v : ℤ} (s : ℕ) → SFits w v → SFits w (roundShift v s)
+unfolding roundShift
+round-fits zero f = f
+round-fits {w} {v} (suc s) f = rw (round-halves v (suc s) (omega arith)) (upper-fits (shr-fits (2 ^ (suc s - 1)) f))
 
 -- ---- past the last place of 64 bits
 

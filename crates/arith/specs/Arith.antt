@@ -35,3 +35,14 @@ wrapI32 v = pos (modZ (v +ℤ pos (2 ^ 31)) (2 ^ 32)) -ℤ pos (2 ^ 31)
 -- v lies from lo to hi.
 abbrev pub within : ℤ → ℤ → ℤ → Bool
 within lo hi v = leZ lo v && leZ v hi
+
+-- v where it is from lo to hi, and 0 elsewhere.
+unfoldable pub orZero : ℤ → ℤ → ℤ → ℤ
+orZero v lo hi = cond (ltZ v lo) (pos 0) (cond (ltZ hi v) (pos 0) v)
+
+-- v as a number of a narrower type, 16 or 32 bits signed: itself where the type has it, and 0 elsewhere. A caller that has looked before loses nothing.
+unfoldable pub narrowI16 : ℤ → ℤ
+narrowI16 v = orZero v (negsuc 32767) (pos 32767)
+
+unfoldable pub narrowI32 : ℤ → ℤ
+narrowI32 v = orZero v (negsuc 2147483647) (pos 2147483647)

@@ -1,11 +1,10 @@
-// The arithmetic of the path: rounding, clamps, shifts, products and reductions of signed integers.
+// The arithmetic of the path: rounding, clamps, shifts, reductions and narrower types of signed integers.
 //
 // Every function here is total. It answers for each input what its definition over ℤ says (specs/Arith.antt), and no caller owes it anything.
 ghost use mathlib.Core.Path.{_≡_};
 ghost use Prim.Native.Nat.{_^_, min};
-ghost use lib.IntN.{_*ℤ_};
 ghost use lib.Signed.{shrZ};
-ghost use Rattle.arith.specs.Arith.{roundShift, clampZ, sat16Z, modZ, wrapI32};
+ghost use Rattle.arith.specs.Arith.{roundShift, clampZ, sat16Z, modZ, wrapI32, orZero, narrowI16, narrowI32};
 
 // round(v / 2^s), a half upward; v for s = 0. The last bit that is shifted out decides, so it is
 // enough to look at v a place before: that number less its half, which cannot overflow.
@@ -43,13 +42,6 @@ pub fn divide_down(n: i64, m: u32) -> i64
         return -1 - (-1 - n) / (m as i64);
     }
     n / (m as i64)
-}
-
-// The whole product: 32 bits times 32 bits fit 64.
-pub fn product(a: i32, b: i32) -> i64
-    ensures { λ r. ⌜ r ≡ a *ℤ b ⌝ }
-{
-    (a as i64) * (b as i64)
 }
 
 // v, held between lo and hi.
@@ -102,4 +94,31 @@ pub fn wrap_i32(v: i64) -> i32
         return n as i32;
     }
     (n as i64 - 0x1_0000_0000) as i32
+}
+
+// v where it is from lo to hi; 0 elsewhere.
+fn or_zero(v: i64, lo: i64, hi: i64) -> i64
+    ensures { λ r. ⌜ r ≡ orZero v lo hi ⌝ }
+{
+    if v < lo {
+        return 0;
+    }
+    if hi < v {
+        return 0;
+    }
+    v
+}
+
+// v as 16 bits signed, for a caller that has looked whether it is one. Where it is not, it is neither clipped nor wrapped: the answer is 0.
+pub fn narrow_i16(v: i64) -> i16
+    ensures { λ r. ⌜ r ≡ narrowI16 v ⌝ }
+{
+    or_zero(v, -0x8000, 0x7fff) as i16
+}
+
+// v as 32 bits signed, likewise.
+pub fn narrow_i32(v: i64) -> i32
+    ensures { λ r. ⌜ r ≡ narrowI32 v ⌝ }
+{
+    or_zero(v, -0x8000_0000, 0x7fff_ffff) as i32
 }

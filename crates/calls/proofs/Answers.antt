@@ -15,15 +15,17 @@ use Rattle.arith.proofs.Magnitude.{abs-neg}
 use Rattle.arith.proofs.Bits.{sfit, whole}
 use Rattle.params.specs.Judge.{Sheet, firstOf, judged}
 use Rattle.params.proofs.Faults.{first-none}
-use Rattle.fixed.specs.declared.Pair.{Pair}
-use Rattle.fixed.specs.declared.Frontend.{Frontend}
-use Rattle.fixed.specs.Start.{startOf, fresh}
+use Rattle.state.specs.declared.Pair.{Pair}
+use Rattle.state.specs.declared.Frontend.{Frontend}
+use Rattle.state.specs.Start.{startOf, fresh}
 use Rattle.fixed.specs.Sample.{falls, madeBy, next, after, emitted}
-use Rattle.fixed.specs.Block.{Block, blockFaults, pairsOf, accepted, blockOf}
-use Rattle.fixed.proofs.States.{Going, going, run-going}
+use Rattle.fixed.specs.Block.{Block, pairsOf, accepted, blockOf}
+use Rattle.state.specs.Check.{blockFaults}
+use Rattle.state.proofs.Going.{Going, going}
+use Rattle.fixed.proofs.States.{run-going}
 use Rattle.fixed.proofs.Runs.{run-samples}
 use Rattle.fixed.proofs.Turns.{pairs-long}
-use Rattle.fixed.proofs.Verdicts.{block-numbered, Faultless, faultless}
+use Rattle.state.proofs.Verdicts.{block-numbered, Faultless, faultless}
 use Rattle.places.specs.Answer.{answered}
 use Rattle.places.specs.States.{stateFits, hasPlaces}
 use Rattle.places.proofs.Placed.{Placed, has-places}

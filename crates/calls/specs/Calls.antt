@@ -15,8 +15,9 @@ use Rattle.params.specs.Offset.{Parts, offsetOf}
 use Rattle.input.specs.Input.{componentOf}
 use Rattle.design.specs.Refusal.{Answer as Designed, accepted, refused}
 use Rattle.design.specs.Design.{sheetOfDesign}
-use Rattle.fixed.specs.Start.{Start, startOf}
-use Rattle.fixed.specs.Block.{Block, blockOf, Read, readOf}
+use Rattle.state.specs.Start.{Start, startOf}
+use Rattle.fixed.specs.Block.{Block, blockOf}
+use Rattle.state.specs.Read.{Read, readOf}
 use Rattle.places.specs.Answer.{Answer, answered}
 use Rattle.places.specs.Sheet.{sheetNumber, paramsAt, sheetNumbers}
 use Rattle.places.specs.Rates.{designNumber, designAt, gainsAt}

@@ -31,7 +31,7 @@ pub fn start(sheet: &[i64], h: &[i32], g: &[i32], k: &[i32], state: &mut [i64]) 
     match places::read_sheet(sheet) {
         ReadSheet::Refused(number) => number,
         ReadSheet::Sheet(p) => {
-            let started = fixed::Frontend::new(p, h, g, k);
+            let started = state::Frontend::new(p, h, g, k);
             let verdict = started.verdict;
             let refused = verdict.number();
             if refused != 0 {
@@ -78,7 +78,7 @@ pub fn block(
                 return 0 - no_state(p, h, g, k) as i64;
             }
             let before = read.state;
-            let done = before.process(p, h, g, k, values, &mut *out);
+            let done = fixed::process(before, p, h, g, k, values, &mut *out);
             let verdict = done.verdict;
             let refused = verdict.number();
             if refused != 0 {

@@ -8,15 +8,15 @@ use Rattle.floats.specs.Whole.{roundAway}
 use Rattle.design.specs.Steps.{hundredths, spsOf, periodNominal, atLeastMin, periodMin, periodMax, integratorMax, ncoStep, agcTarget, registersOf}
 use Rattle.design.specs.Design.{goodSps, goodTrim, designFaults, designOf}
 use Rattle.fixed.specs.Mix.{mixed}
-use Rattle.fixed.specs.Symbol.{quantised, gainError}
-use Rattle.cases.specs.Sheet.{rows, paramsWith, sheetOf, sheet, firstOfK}
+use Rattle.symbol.specs.Make.{quantised, gainError}
+use Rattle.cases.specs.Sheet.{rows, paramsWith, plainSheet, sheet, firstOfK}
 use Rattle.cases.specs.Rates.{twoSamples, registersWith}
 use Rattle.cases.specs.Worked.{placesFrom, Worked}
 use lib.Ieee.{round, neg, mul, div, lt, le, eq, toUnsigned, toSigned}
 use mathlib.Core.List.{flatten}
 
 pub worked : Worked
-unfolding flatten roundShift clampZ modZ wrapI32 quarter wheel goodTaps goodLength rowOf coefficientFaults magnitudes rowFaults rowsFaults detectorPlace zeroOutside lengthFaults bankFaults rowsOutside goodPeriods fieldFaults faults judged partsOf offsetOf mixed quantised gainError rows paramsWith sheetOf sheet firstOfK placesFrom round neg mul div lt le eq toUnsigned toSigned roundAway hundredths spsOf periodNominal atLeastMin periodMin periodMax integratorMax ncoStep agcTarget registersOf goodSps goodTrim designFaults designOf twoSamples registersWith
+unfolding flatten roundShift clampZ modZ wrapI32 quarter wheel goodTaps goodLength rowOf coefficientFaults magnitudes rowFaults rowsFaults detectorPlace zeroOutside lengthFaults bankFaults rowsOutside goodPeriods fieldFaults faults judged partsOf offsetOf mixed quantised gainError rows paramsWith plainSheet sheet firstOfK placesFrom round neg mul div lt le eq toUnsigned toSigned roundAway hundredths spsOf periodNominal atLeastMin periodMin periodMax integratorMax ncoStep agcTarget registersOf goodSps goodTrim designFaults designOf twoSamples registersWith
 worked = record {
   round-down = refl;
   round-up = refl;

@@ -35,11 +35,13 @@ paramsWith nominal least most = record {
 }
 
 -- Each row of h and k passes the newest sample on, and g gives nothing.
-unfoldable pub sheetOf : Params → Sheet
-sheetOf p = record { params = p; h = rows 64 (pos 16384 ∷ pos 0 ∷ pos 0 ∷ pos 0 ∷ []); g = rows 64 (pos 0 ∷ pos 0 ∷ pos 0 ∷ pos 0 ∷ []); k = rows 64 (pos 16384 ∷ pos 0 ∷ pos 0 ∷ pos 0 ∷ []) }
+unfoldable pub plainSheet : Params → Sheet
+plainSheet p =
+    let first : List ℤ = rows 64 (pos 16384 ∷ pos 0 ∷ pos 0 ∷ pos 0 ∷ []) in
+    record { params = p; h = first; g = rows 64 (pos 0 ∷ pos 0 ∷ pos 0 ∷ pos 0 ∷ []); k = first }
 
 unfoldable pub sheet : Sheet
-sheet = sheetOf (paramsWith 33554432 32883343 34225520)
+sheet = plainSheet (paramsWith 33554432 32883343 34225520)
 
 -- The sheet with another first coefficient in the first row of k.
 unfoldable pub firstOfK : ℤ → Sheet

@@ -13,8 +13,8 @@ use Rattle.params.specs.Offset.{offsetOf}
 use Rattle.design.specs.Refusal.{accepted}
 use Rattle.design.specs.Design.{designOf}
 use Rattle.fixed.specs.Mix.{mixed}
-use Rattle.fixed.specs.Symbol.{quantised, gainError}
-use Rattle.cases.specs.Sheet.{paramsWith, sheetOf, sheet, firstOfK}
+use Rattle.symbol.specs.Make.{quantised, gainError}
+use Rattle.cases.specs.Sheet.{paramsWith, plainSheet, sheet, firstOfK}
 use Rattle.cases.specs.Rates.{twoSamples, registersWith}
 
 -- The detector's places among n taps from tap t on.
@@ -59,11 +59,11 @@ pub record Worked : Type 0 where
   pub coefficient-refused : judged (firstOfK (pos 131072)) ≡ refusal 3 (pos 2 ∷ pos 0 ∷ pos 131072 ∷ [])
   pub sum-passes : judged (firstOfK (pos 131071)) ≡ nothing
   -- P5
-  pub least-refused : judged (sheetOf (paramsWith 33554432 16777216 34225520)) ≡ refusal 6 []
-  pub least-passes : judged (sheetOf (paramsWith 33554432 16777217 34225520)) ≡ nothing
+  pub least-refused : judged (plainSheet (paramsWith 33554432 16777216 34225520)) ≡ refusal 6 []
+  pub least-passes : judged (plainSheet (paramsWith 33554432 16777217 34225520)) ≡ nothing
   -- P6
-  pub most-passes : judged (sheetOf (paramsWith 33554432 32883343 67108863)) ≡ nothing
-  pub most-refused : judged (sheetOf (paramsWith 33554432 32883343 67108864)) ≡ refusal 6 []
+  pub most-passes : judged (plainSheet (paramsWith 33554432 32883343 67108863)) ≡ nothing
+  pub most-refused : judged (plainSheet (paramsWith 33554432 32883343 67108864)) ≡ refusal 6 []
   -- P7
   pub detector : placesFrom 32 0 32 ≡ (12 ∷ 13 ∷ 14 ∷ 15 ∷ 16 ∷ 17 ∷ 18 ∷ 19 ∷ [])
   -- P8

@@ -141,7 +141,7 @@ fn is_good_trim(trim: f64) -> bool
 
 impl Design {
     // Samples from one symbol to the next.
-    pub fn sps(self) -> f64
+    fn sps(self) -> f64
         ensures { λ r. ⌜ r ≡ spsOf self ⌝ }
     {
         self.sample_rate / self.symbol_rate

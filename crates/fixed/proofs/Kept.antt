@@ -8,30 +8,34 @@ use native.Mathlib.Omega.{arith}
 use lib.Dec.{eqb}
 use lib.ListN.{length, getD, set, replicate, length-set}
 use lib.Seq.{getD-set-same, getD-set-other}
-use lib.IntN.{ℤ, pos, natAbs, _+ℤ_, _-ℤ_}
+use lib.IntN.{ℤ, pos, natAbs, _-ℤ_}
 use lib.Signed.{ltZ}
 use borrow.Author.Tests.{ltb-true, ltb-false, eqb-true, eqb-false}
+use Rattle.arith.proofs.Tested.{between-abs}
 use Rattle.params.specs.declared.Params.{Params}
-use Rattle.params.specs.Judge.{Sheet, sheetOf}
+use Rattle.params.specs.Judge.{Sheet}
 use Rattle.params.proofs.Accepted.{GoodFields, Accepted, judged-none, no-faults}
-use Rattle.fixed.specs.declared.Pair.{Pair}
-use Rattle.fixed.specs.declared.Pending.{Pending}
-use Rattle.fixed.specs.declared.Registers.{Registers}
-use Rattle.fixed.specs.declared.Frontend.{Frontend}
-use Rattle.fixed.specs.declared.Position.{Position}
-use Rattle.fixed.specs.declared.Symbol.{Symbol}
-use Rattle.fixed.specs.Start.{noPair, noPending}
-use Rattle.fixed.specs.Mix.{mixed, turned}
+use Rattle.registers.specs.declared.Pending.{Pending}
+use Rattle.registers.specs.declared.Registers.{Registers}
+use Rattle.registers.specs.Correct.{integratorEnd}
+use Rattle.registers.specs.Step.{one, found, left, afterSymbol}
+use Rattle.registers.proofs.Loops.{Loop, Within}
+use Rattle.symbol.specs.declared.Symbol.{Symbol}
+use Rattle.symbol.specs.Make.{symbolFrom}
+use Rattle.state.specs.declared.Pair.{Pair}
+use Rattle.state.specs.declared.Frontend.{Frontend}
+use Rattle.state.specs.declared.Position.{Position}
+use Rattle.state.specs.Start.{noPair, noPending}
+use Rattle.fixed.specs.Mix.{mixed, nextNco}
 use Rattle.fixed.specs.Line.{nextHead}
 use Rattle.fixed.specs.Filter.{filtered}
-use Rattle.fixed.specs.Loop.{integratorEnd, corrected}
-use Rattle.fixed.specs.Symbol.{due, symbolFrom, symbolOf}
-use Rattle.fixed.specs.Sample.{one, joined, withSymbol, withoutSymbol, falls, next, madeBy}
-use Rattle.fixed.specs.Block.{goodState}
-use Rattle.fixed.specs.Inside.{lowered, Twice, Laid, Queued, bare, Stands, Ready}
-use Rattle.fixed.proofs.Loops.{Loop, loopOf, Within}
-use Rattle.fixed.proofs.Tested.{between-abs}
-use Rattle.fixed.proofs.States.{time, head-below, due-time, due-symbols, Going, going, good, due-within, silent-going, sounded-going}
+use Rattle.fixed.specs.Queue.{oldestErrors}
+use Rattle.fixed.specs.Sample.{due, symbolOf, joined, withSymbol, withoutSymbol, falls, next, madeBy}
+use Rattle.state.specs.Check.{goodState, outline}
+use Rattle.fixed.specs.Inside.{lowered, Twice, Laid, Queued, errorsAt, Kept, kept, Stands, Ready, GoesOn}
+use Rattle.state.proofs.Going.{time, Going, going, good}
+use Rattle.fixed.proofs.States.{head-below, due-within, without-symbol-going, with-symbol-going}
+use Rattle.fixed.proofs.OneStep.{one-step}
 
 -- ---- the line
 
@@ -84,7 +88,7 @@ queued-set {e} {err} {pending} at w h queued = record {
 }
   where
     go : (n : ℕ) → n < 24 → (b : Bool) → eqb n at ≡ b
-        → getD (set pending at w) n noPending ≡ record { e = getD (set e at (w .e)) n (pos 0); err = getD (set err at (w .err)) n (pos 0) }
+        → getD (set pending at w) n noPending ≡ errorsAt (set e at (w .e)) (set err at (w .err)) n
     go n b true q =
         rw (eqb-true n at q, getD-set-same pending at w noPending (omega (arith, queued .long)), getD-set-same e at (w .e) (pos 0) (omega (arith, queued .long-e)), getD-set-same err at (w .err) (pos 0) (omega (arith, queued .long-err)))
         refl
@@ -105,56 +109,54 @@ v-small p l f w = go (f .integrator .0) (f .integrator .1) (f .integrator .2)
 
 -- ---- registers and positions
 
--- equal arrays, registers and positions stand for the same state, and are as ready
-pub same-stands : {taps : ℕ} {i i′ q q′ : List ℕ} {e e′ err err′ : List ℤ} {r r′ : Registers} {w w′ : Position} {f : Frontend}
-    → i ≡ i′ → q ≡ q′ → e ≡ e′ → err ≡ err′ → r ≡ r′ → w ≡ w′ → Stands taps i q e err r w f → Stands taps i′ q′ e′ err′ r′ w′ f
-same-stands {taps} {i} {i′} {q} {q′} {e} {e′} {err} {err′} {r} {r′} {w} {w′} {f} at-i at-q at-e at-err at-r at-w stands =
-    subst (λ (x : Position). Stands taps i′ q′ e′ err′ r′ x f) at-w
-    (subst (λ (x : Registers). Stands taps i′ q′ e′ err′ x w f) at-r
-    (subst (λ (x : List ℤ). Stands taps i′ q′ e′ x r w f) at-err
-    (subst (λ (x : List ℤ). Stands taps i′ q′ x err r w f) at-e
-    (subst (λ (x : List ℕ). Stands taps i′ x e err r w f) at-q (subst (λ (x : List ℕ). Stands taps x q e err r w f) at-i stands)))))
-
-pub same-ready : {p : Params} {h g k : List ℤ} {i i′ q q′ : List ℕ} {e err : List ℤ} {r r′ : Registers} {w w′ : Position}
-    → i ≡ i′ → q ≡ q′ → r ≡ r′ → w ≡ w′ → Ready p h g k i q e err r w → Ready p h g k i′ q′ e err r′ w′
-same-ready {p} {h} {g} {k} {i} {i′} {q} {q′} {e} {err} {r} {r′} {w} {w′} at-i at-q at-r at-w ready =
-    subst (λ (x : Position). Ready p h g k i′ q′ e err r′ x) at-w
-    (subst (λ (x : Registers). Ready p h g k i′ q′ e err x w) at-r
-    (subst (λ (x : List ℕ). Ready p h g k i′ x e err r w) at-q (subst (λ (x : List ℕ). Ready p h g k x q e err r w) at-i ready)))
-
 -- The registers as a symbol finds them, of what a block keeps.
-abbrev pub dueIn : Params → List ℤ → List ℤ → Registers → Position → Registers
-dueIn p e err r w = cond (eqb (w .waiting) 24) (corrected p r (record { e = getD e (w .oldest) (pos 0); err = getD err (w .oldest) (pos 0) })) r
-
--- The registers after a symbol, from those that it found.
-abbrev pub sounded : Registers → Registers
-sounded d = record { nco = d .nco; «t_acc» = d .«t_acc» +ℤ pos (d .period) -ℤ one; v = d .v; period = d .period; «gain_acc» = d .«gain_acc»; symbols = d .symbols + 1 }
+abbrev pub dueIn : Params → Kept → Registers
+dueIn p x = let w : Position = x .position in found p (x .registers) (eqb (w .waiting) 24) (errorsAt (x .e) (x .err) (w .oldest))
 
 -- The registers after a sample without a symbol.
-abbrev pub silent : Registers → Registers
-silent r = record { nco = r .nco; «t_acc» = r .«t_acc» -ℤ one; v = r .v; period = r .period; «gain_acc» = r .«gain_acc»; symbols = r .symbols }
+abbrev pub later : Registers → Registers
+later r = record { nco = r .nco; «t_acc» = r .«t_acc» -ℤ one; v = r .v; period = r .period; «gain_acc» = r .«gain_acc»; symbols = r .symbols }
 
 -- The positions after a symbol, and after a sample without one.
-abbrev pub placed : Position → Position
-placed w = record {
+abbrev pub afterSymbolAt : Position → Position
+afterSymbolAt w = record {
   head = w .head;
   oldest = cond (eqb (w .waiting) 24) ((w .oldest + 1) % 24) (w .oldest);
   waiting = cond (eqb (w .waiting) 24) 24 (w .waiting + 1);
   samples = w .samples + 1;
 }
 
-abbrev pub passed : Position → Position
-passed w = record { head = w .head; oldest = w .oldest; waiting = w .waiting; samples = w .samples + 1 }
+abbrev pub laterAt : Position → Position
+laterAt w = record { head = w .head; oldest = w .oldest; waiting = w .waiting; samples = w .samples + 1 }
 
-module _ (p : Params) (h g k : List ℤ) (i q : List ℕ) (e err : List ℤ) (r : Registers) (w : Position) (ready : Ready p h g k i q e err r w) where
-  abbrev s : Sheet
-  s = sheetOf p h g k
+-- What is kept after a symbol with these errors, and after a sample without one.
+abbrev pub keptWith : Params → Kept → ℤ → ℤ → Kept
+keptWith p x e err =
+    let w : Position = x .position in
+    let at : ℕ = (w .oldest + w .waiting) % 24 in
+    kept (x .i) (x .q) (set (x .e) at e) (set (x .err) at err) (left (dueIn p x)) (afterSymbolAt w)
+
+abbrev pub keptWithout : Kept → Kept
+keptWithout x = kept (x .i) (x .q) (x .e) (x .err) (later (x .registers)) (laterAt (x .position))
+
+module _ {s : Sheet} {x : Kept} (ready : Ready s x) where
+  abbrev p : Params
+  p = s .params
+
+  abbrev r : Registers
+  r = x .registers
+
+  abbrev w : Position
+  w = x .position
+
+  abbrev waitsLongest : Pending
+  waitsLongest = errorsAt (x .e) (x .err) (w .oldest)
 
   pub accepted : Accepted s
-  accepted = no-faults s (judged-none s (ready .accepted))
+  accepted = no-faults s (judged-none s (ready .begun .accepted))
 
-  pub ready-going : Going p (bare r w)
-  ready-going = going p (bare r w) (ready .good)
+  pub ready-going : Going p (outline r w)
+  ready-going = going p (outline r w) (ready .begun .good)
 
   -- The state that is made of registers and positions, with the errors that would be applied.
   abbrev f₀ : Frontend
@@ -162,7 +164,7 @@ module _ (p : Params) (h g k : List ℤ) (i q : List ℕ) (e err : List ℤ) (r 
     registers = r;
     line = [];
     head = w .head;
-    pending = set (replicate 24 noPending) (w .oldest) (record { e = getD e (w .oldest) (pos 0); err = getD err (w .oldest) (pos 0) });
+    pending = set (replicate 24 noPending) (w .oldest) waitsLongest;
     oldest = w .oldest;
     waiting = w .waiting;
     samples = w .samples;
@@ -179,124 +181,141 @@ module _ (p : Params) (h g k : List ℤ) (i q : List ℕ) (e err : List ℤ) (r 
     few = ready-going .few;
   }
 
-  due₀ : due p f₀ ≡ dueIn p e err r w
+  oldest₀ : oldestErrors f₀ ≡ waitsLongest
+  oldest₀ = getD-set-same (replicate 24 noPending) (w .oldest) waitsLongest noPending (omega (arith, ready-going .oldest))
+
+  due₀ : due p f₀ ≡ dueIn p x
   unfolding due
-  due₀ =
-      ap (λ (x : Pending). cond (eqb (w .waiting) 24) (corrected p r x) r)
-      (getD-set-same (replicate 24 noPending) (w .oldest) (record { e = getD e (w .oldest) (pos 0); err = getD err (w .oldest) (pos 0) }) noPending (omega (arith, ready-going .oldest)))
+  due₀ = ap (found p r (eqb (w .waiting) 24)) oldest₀
 
-  -- the registers as a symbol finds them are within their bounds
-  pub due-small : Within p (loopOf (dueIn p e err r w))
-  due-small = subst (λ (d : Registers). Within p (loopOf d)) due₀ (due-within s accepted f₀ going₀)
+  -- ---- a symbol
 
-  pub due-same : (dueIn p e err r w .«t_acc» ≡ r .«t_acc») × (dueIn p e err r w .symbols ≡ r .symbols)
-  due-same = (sym (ap (λ (d : Registers). d .«t_acc») due₀) ∙ due-time p f₀, sym (ap (λ (d : Registers). d .symbols) due₀) ∙ due-symbols p f₀)
+  -- the step on the registers, as the code makes it
+  pub step-is : ltZ (r .«t_acc») one ≡ true
+      → afterSymbol p r (eqb (w .waiting) 24) waitsLongest ≡ record { registers = left (dueIn p x); made = true }
+  unfolding withSymbol
+  step-is t =
+      sym (ap (afterSymbol p r (eqb (w .waiting) 24)) oldest₀) ∙ one-step s f₀ (good p f₀ going₀) t (omega (arith, ready .room))
+      ∙ ap (λ (d : Registers). record { registers = left d; made = true }) due₀
+
+  -- the registers that it leaves have a gain of 16 bits
+  pub step-gain : left (dueIn p x) .«gain_acc» ≤ 16777215
+  unfolding left
+  step-gain = subst (λ (d : Registers). d .«gain_acc» ≤ 16777215) due₀ (due-within s accepted f₀ going₀ .gain)
 
   -- a block can go on from what a symbol leaves
-  pub sounded-good : ltZ (r .«t_acc») one ≡ true → goodState p (bare (sounded (dueIn p e err r w)) (placed w)) ≡ true
+  pub with-symbol-on : (e err : ℤ) → ltZ (r .«t_acc») one ≡ true → GoesOn s x (keptWith p x e err)
   unfolding withSymbol goodState
-  sounded-good t =
+  with-symbol-on e err t =
       let soon : time f₀ < 16777216 = ltb-true (time f₀) 16777216 (sym (ap (λ (z : ℤ). ltZ z one) (going₀ .whole)) ∙ t) in
-      subst (λ (d : Registers). goodState p (bare (sounded d) (placed w)) ≡ true) due₀ (good p (withSymbol s f₀) (sounded-going s accepted f₀ soon going₀))
+      record {
+        good =
+            subst (λ (d : Registers). goodState p (outline (left d) (afterSymbolAt w)) ≡ true) due₀
+            (good p (withSymbol s f₀) (with-symbol-going s accepted f₀ soon going₀));
+        samples = refl;
+      }
 
-  module _ (f : Frontend) (stands : Stands (p .taps) i q e err r w f) where
-    stands-due : due p f ≡ dueIn p e err r w
+  module _ (f : Frontend) (stands : Stands (p .taps) x f) where
+    stands-due : due p f ≡ dueIn p x
     unfolding due
     stands-due =
-        let found : getD (f .pending) (f .oldest) noPending ≡ record { e = getD e (w .oldest) (pos 0); err = getD err (w .oldest) (pos 0) } =
+        let oldest : oldestErrors f ≡ waitsLongest =
         ap (λ (n : ℕ). getD (f .pending) n noPending) (stands .oldest) ∙ stands .queue .each (w .oldest) (omega (arith, ready-going .oldest)) in
-        rw (stands .waiting, stands .registers, found) refl
+        rw (stands .waiting, stands .registers, oldest) refl
 
     -- the symbol of what a block keeps is the state's
     pub stands-symbol : (phase : ℕ) → phase ≡ natAbs (r .«t_acc») / 2 ^ 18
-        → symbolFrom p (dueIn p e err r w) (w .samples) phase (filtered s phase (f .line) (w .head)) ≡ symbolOf s f
-    unfolding symbolOf
+        → let d : Registers = left (dueIn p x) in
+        symbolFrom p (d .«gain_acc» / 256) (d .period) (w .samples) phase (filtered s phase (f .line) (w .head)) ≡ symbolOf s f
+    unfolding symbolOf left
     stands-symbol phase at = rw (at, stands-due, stands .registers, stands .samples, stands .head) refl
 
-    -- a symbol
-    pub stands-sounded : (y : Symbol) → y ≡ symbolOf s f
-        → Stands (p .taps) i q (set e ((w .oldest + w .waiting) % 24) (y .e)) (set err ((w .oldest + w .waiting) % 24) (y .err)) (sounded (dueIn p e err r w)) (placed w) (withSymbol s f)
+    -- what is kept after it stands for the state after it
+    pub stands-with : (y : Symbol) → y ≡ symbolOf s f → Stands (p .taps) (keptWith p x (y .e) (y .err)) (withSymbol s f)
     unfolding withSymbol
-    stands-sounded y is =
+    stands-with y is =
         let at : ℕ = (w .oldest + w .waiting) % 24 in
         record {
           line = stands .line;
           queue =
-              subst (Queued (set e at (y .e)) (set err at (y .err)))
+              subst (Queued (set (x .e) at (y .e)) (set (x .err) at (y .err)))
               (λ t. set (f .pending) ((sym (stands .oldest) t + sym (stands .waiting) t) % 24) (record { e = is t .e; err = is t .err }))
               (queued-set at (record { e = y .e; err = y .err }) (omega arith) (stands .queue));
-          registers = ap sounded stands-due;
+          registers = ap left stands-due;
           head = stands .head;
           oldest = rw (stands .oldest, stands .waiting) refl;
           waiting = rw (stands .waiting) refl;
           samples = ap (λ (n : ℕ). n + 1) (stands .samples);
         }
 
-    -- no symbol
-    pub stands-silent : Stands (p .taps) i q e err (silent r) (passed w) (withoutSymbol f)
+    -- ---- a sample without a symbol
+
+    pub stands-without : Stands (p .taps) (keptWithout x) (withoutSymbol f)
     unfolding withoutSymbol
-    stands-silent = record {
+    stands-without = record {
       line = stands .line;
       queue = stands .queue;
-      registers = ap silent (stands .registers);
+      registers = ap later (stands .registers);
       head = stands .head;
       oldest = stands .oldest;
       waiting = stands .waiting;
       samples = ap (λ (n : ℕ). n + 1) (stands .samples);
     }
 
-  pub silent-good : ltZ (r .«t_acc») one ≡ false → goodState p (bare (silent r) (passed w)) ≡ true
+  pub without-symbol-on : ltZ (r .«t_acc») one ≡ false → GoesOn s x (keptWithout x)
   unfolding withoutSymbol goodState
-  silent-good t =
+  without-symbol-on t =
       let late : 16777216 ≤ time f₀ = ltb-false (time f₀) 16777216 (sym (ap (λ (z : ℤ). ltZ z one) (going₀ .whole)) ∙ t) in
-      good p (withoutSymbol f₀) (silent-going s accepted f₀ late going₀)
+      record { good = good p (withoutSymbol f₀) (without-symbol-going s accepted f₀ late going₀); samples = refl }
 
--- ---- a sample joins
+  -- ---- a sample joins
 
--- The registers once a sample was mixed, and the positions once it joined the line.
-abbrev pub turnedOn : Params → Registers → Registers
-turnedOn p r = record { nco = turned p (r .nco); «t_acc» = r .«t_acc»; v = r .v; period = r .period; «gain_acc» = r .«gain_acc»; symbols = r .symbols }
-
-abbrev pub movedTo : ℕ → Position → Position
-movedTo head w = record { head = head; oldest = w .oldest; waiting = w .waiting; samples = w .samples }
-
-module _ (p : Params) (h g k : List ℤ) (i q : List ℕ) (e err : List ℤ) (r : Registers) (w : Position) (ready : Ready p h g k i q e err r w) where
   abbrev head : ℕ
   head = nextHead (p .taps) (w .head)
 
   -- the sample's place lies within the line
   pub head-fits : (head < p .taps) × (p .taps ≤ 64)
-  head-fits = (head-below (p .taps) (w .head) (ready-going p h g k i q e err r w ready .head), accepted p h g k i q e err r w ready .lengths .good .most)
+  head-fits = (head-below (p .taps) (w .head) (ready-going .head), accepted .lengths .good .most)
 
-  pub ready-joined : (x y : ℕ)
-      → Ready p h g k (set (set i head x) (head + p .taps) x) (set (set q head y) (head + p .taps) y) e err (turnedOn p r) (movedTo head w)
+  -- What is kept once a sample joined as these two numbers.
+  abbrev pub keptJoined : ℕ → ℕ → Kept
+  keptJoined a b =
+      kept (set (set (x .i) head a) (head + p .taps) a) (set (set (x .q) head b) (head + p .taps) b) (x .e) (x .err)
+      (record { nco = nextNco p (r .nco); «t_acc» = r .«t_acc»; v = r .v; period = r .period; «gain_acc» = r .«gain_acc»; symbols = r .symbols })
+      (record { head = head; oldest = w .oldest; waiting = w .waiting; samples = w .samples })
+
+  pub ready-joined : (a b : ℕ) → Ready s (keptJoined a b)
   unfolding joined
-  ready-joined x y = record {
-    accepted = ready .accepted;
-    good =
-        good p (bare (turnedOn p r) (movedTo head w)) (record {
-          head = head-fits .0;
-          whole = ready-going p h g k i q e err r w ready .whole;
-          soon = ready-going p h g k i q e err r w ready .soon;
-          loop = ready-going p h g k i q e err r w ready .loop;
-          waiting = ready-going p h g k i q e err r w ready .waiting;
-          oldest = ready-going p h g k i q e err r w ready .oldest;
-          few = ready-going p h g k i q e err r w ready .few;
-        });
+  ready-joined a b = record {
+    begun = record {
+      accepted = ready .begun .accepted;
+      good =
+          good p (outline (keptJoined a b .registers) (keptJoined a b .position)) (record {
+            head = head-fits .0;
+            whole = ready-going .whole;
+            soon = ready-going .soon;
+            loop = ready-going .loop;
+            waiting = ready-going .waiting;
+            oldest = ready-going .oldest;
+            few = ready-going .few;
+          });
+      long-i = length-set (set (x .i) head a) (head + p .taps) a ∙ length-set (x .i) head a ∙ ready .begun .long-i;
+      long-q = length-set (set (x .q) head b) (head + p .taps) b ∙ length-set (x .q) head b ∙ ready .begun .long-q;
+      long-e = ready .begun .long-e;
+      long-err = ready .begun .long-err;
+    };
     room = ready .room;
-    long-i = length-set (set i head x) (head + p .taps) x ∙ length-set i head x ∙ ready .long-i;
-    long-q = length-set (set q head y) (head + p .taps) y ∙ length-set q head y ∙ ready .long-q;
-    long-e = ready .long-e;
-    long-err = ready .long-err;
   }
 
-  pub stands-joined : (f : Frontend) → Stands (p .taps) i q e err r w f → (a : Pair) (x y : ℕ) → lowered x ≡ mixed (r .nco) a .i → lowered y ≡ mixed (r .nco) a .q
-      → Stands (p .taps) (set (set i head x) (head + p .taps) x) (set (set q head y) (head + p .taps) y) e err (turnedOn p r) (movedTo head w) (joined (sheetOf p h g k) f a)
+  pub stands-joined : (f : Frontend) → Stands (p .taps) x f → (m : Pair) (a b : ℕ) → lowered a ≡ mixed (r .nco) m .i → lowered b ≡ mixed (r .nco) m .q
+      → Stands (p .taps) (keptJoined a b) (joined s f m)
   unfolding joined
-  stands-joined f stands a x y ex ey = record {
-    line = rw (stands .head, stands .registers) (laid-joined head x y (mixed (r .nco) a) ex ey (head-fits .0) (head-fits .1) (stands .line));
+  stands-joined f stands m a b ea eb = record {
+    line = rw (stands .head, stands .registers) (laid-joined head a b (mixed (r .nco) m) ea eb (head-fits .0) (head-fits .1) (stands .line));
     queue = stands .queue;
-    registers = ap (turnedOn p) (stands .registers);
+    registers =
+        ap (λ (r : Registers). record { nco = nextNco p (r .nco); «t_acc» = r .«t_acc»; v = r .v; period = r .period; «gain_acc» = r .«gain_acc»; symbols = r .symbols })
+        (stands .registers);
     head = ap (nextHead (p .taps)) (stands .head);
     oldest = stands .oldest;
     waiting = stands .waiting;
@@ -305,19 +324,20 @@ module _ (p : Params) (h g k : List ℤ) (i q : List ℕ) (e err : List ℤ) (r 
 
 -- ---- with a symbol or without
 
-pub next-sounded : (s : Sheet) (f : Frontend) (a : Pair) → falls f ≡ true → withSymbol s (joined s f a) ≡ next s f a
+pub next-with : (s : Sheet) (f : Frontend) (a : Pair) → falls f ≡ true → withSymbol s (joined s f a) ≡ next s f a
 unfolding next
-next-sounded s f a e = ap (λ (b : Bool). cond b (withSymbol s (joined s f a)) (withoutSymbol (joined s f a))) (sym e)
+next-with s f a e = ap (λ (b : Bool). cond b (withSymbol s (joined s f a)) (withoutSymbol (joined s f a))) (sym e)
 
-pub next-silent : (s : Sheet) (f : Frontend) (a : Pair) → falls f ≡ false → withoutSymbol (joined s f a) ≡ next s f a
+pub next-without : (s : Sheet) (f : Frontend) (a : Pair) → falls f ≡ false → withoutSymbol (joined s f a) ≡ next s f a
 unfolding next
-next-silent s f a e = ap (λ (b : Bool). cond b (withSymbol s (joined s f a)) (withoutSymbol (joined s f a))) (sym e)
+next-without s f a e = ap (λ (b : Bool). cond b (withSymbol s (joined s f a)) (withoutSymbol (joined s f a))) (sym e)
 
-pub made-sounded : (s : Sheet) (f : Frontend) (a : Pair) (made : Bool) (y : Symbol) → falls f ≡ true → made ≡ true → y ≡ symbolOf s (joined s f a) → madeBy s f a ≡ cond made (y ∷ []) []
+pub made-with : (s : Sheet) (f : Frontend) (a : Pair) (made : Bool) (y : Symbol) → falls f ≡ true → made ≡ true → y ≡ symbolOf s (joined s f a)
+    → madeBy s f a ≡ cond made (y ∷ []) []
 unfolding madeBy
-made-sounded s f a made y e m is =
+made-with s f a made y e m is =
     ap (λ (b : Bool). cond b (symbolOf s (joined s f a) ∷ []) []) e ∙ ap (λ (x : Symbol). x ∷ []) (sym is) ∙ ap (λ (b : Bool). cond b (y ∷ []) []) (sym m)
 
-pub made-silent : (s : Sheet) (f : Frontend) (a : Pair) (made : Bool) (y : Symbol) → falls f ≡ false → made ≡ false → madeBy s f a ≡ cond made (y ∷ []) []
+pub made-without : (s : Sheet) (f : Frontend) (a : Pair) (made : Bool) (y : Symbol) → falls f ≡ false → made ≡ false → madeBy s f a ≡ cond made (y ∷ []) []
 unfolding madeBy
-made-silent s f a made y e m = ap (λ (b : Bool). cond b (symbolOf s (joined s f a) ∷ []) []) e ∙ ap (λ (b : Bool). cond b (y ∷ []) []) (sym m)
+made-without s f a made y e m = ap (λ (b : Bool). cond b (symbolOf s (joined s f a) ∷ []) []) e ∙ ap (λ (b : Bool). cond b (y ∷ []) []) (sym m)

@@ -1,14 +1,11 @@
--- The laws that the proofs of the functions cite, by subject; those on runs, on the loop and on states serve the theorem on lists of block calls too (crates/timing).
+-- The laws that the proofs of the functions cite, by subject; those on runs and on states serve the theorem on lists of block calls too (crates/timing).
 pub mod Runs
-pub mod Loops
 pub mod States
-pub mod Widths
-pub mod Tested
+pub mod OneStep
 pub mod Filling
 pub mod RowSums
 pub mod Centre
 pub mod Kept
 pub mod Turns
-pub mod Verdicts
 pub mod Unpacked
 pub mod Windows

@@ -11,16 +11,15 @@ use lib.Seq.{ext-getD, getD-set-other}
 use lib.IntN.{ℤ}
 use borrow.Author.Tests.{ltb-true, ltb-false}
 use Rattle.params.specs.Judge.{Sheet}
-use Rattle.fixed.specs.declared.Pair.{Pair}
-use Rattle.fixed.specs.declared.Pending.{Pending}
-use Rattle.fixed.specs.declared.Registers.{Registers}
-use Rattle.fixed.specs.declared.Position.{Position}
-use Rattle.fixed.specs.declared.Frontend.{Frontend}
-use Rattle.fixed.specs.Start.{noPair, noPending}
+use Rattle.state.specs.declared.Pair.{Pair}
+use Rattle.registers.specs.declared.Pending.{Pending}
+use Rattle.state.specs.declared.Position.{Position}
+use Rattle.state.specs.declared.Frontend.{Frontend}
+use Rattle.state.specs.Start.{noPair, noPending}
 use Rattle.fixed.specs.Mix.{mixed}
 use Rattle.fixed.specs.Line.{nextHead}
 use Rattle.fixed.specs.Sample.{joined, withSymbol, withoutSymbol, falls, next, after}
-use Rattle.fixed.specs.Inside.{lowered, Laid, Queued, Stands}
+use Rattle.fixed.specs.Inside.{lowered, Laid, Packed, Queued, Kept, Stands}
 use Rattle.fixed.proofs.States.{head-below}
 
 -- ---- the line's places from `taps` on
@@ -56,11 +55,10 @@ module _ (s : Sheet) where
 -- ---- what is put together
 
 -- the line, whose places from `taps` on come from the line that was taken apart
-pub line-packed : {taps : ℕ} {i q : List ℕ} (old : List Pair) {new packed : List Pair} → Laid taps i q new → ((n : ℕ) → taps ≤ n → getD new n noPair ≡ getD old n noPair)
-    → length packed ≡ 64
-    → ((n : ℕ) → getD packed n noPair ≡ cond (ltb n taps) (record { i = lowered (getD i n 0); q = lowered (getD q n 0) }) (getD old n noPair))
-    → packed ≡ new
-line-packed {taps} {i} {q} old {new} {packed} laid rest long each = ext-getD noPair packed new (long ∙ sym (laid .long)) (λ n h. each n ∙ go n (ltb n taps) refl)
+pub line-packed : {taps : ℕ} {i q : List ℕ} (old : List Pair) {new packed : List Pair} → Laid taps i q new
+    → ((n : ℕ) → taps ≤ n → getD new n noPair ≡ getD old n noPair)
+    → Packed taps i q old packed → packed ≡ new
+line-packed {taps} {i} {q} old {new} {packed} laid rest p = ext-getD noPair packed new (p .long ∙ sym (laid .long)) (λ n h. p .each n ∙ go n (ltb n taps) refl)
   where
     go : (n : ℕ) (b : Bool) → ltb n taps ≡ b
         → cond (ltb n taps) (record { i = lowered (getD i n 0); q = lowered (getD q n 0) }) (getD old n noPair) ≡ getD new n noPair
@@ -73,9 +71,19 @@ queue-packed {e} {err} {new} {packed} a b =
     ext-getD noPending packed new (b .long ∙ sym (a .long)) (λ n h. b .each n (omega (arith, b .long)) ∙ sym (a .each n (omega (arith, b .long))))
 
 -- the state, from what stands for it
-pub put-together : {taps : ℕ} {i q : List ℕ} {e err : List ℤ} {r : Registers} {w : Position} {new : Frontend} {line : List Pair} {pending : List Pending}
-    → Stands taps i q e err r w new → line ≡ new .line → pending ≡ new .pending
-    → _≡_ {A = Frontend} (record { registers = r; line = line; head = w .head; pending = pending; oldest = w .oldest; waiting = w .waiting; samples = w .samples }) new
+pub put-together : {taps : ℕ} {x : Kept} {new : Frontend} {line : List Pair} {pending : List Pending}
+    → Stands taps x new → line ≡ new .line → pending ≡ new .pending
+    → let w : Position = x .position in
+    let f : Frontend = record {
+      registers = x .registers;
+      line = line;
+      head = w .head;
+      pending = pending;
+      oldest = w .oldest;
+      waiting = w .waiting;
+      samples = w .samples;
+    } in
+    f ≡ new
 put-together s line pending = λ t. record {
   registers = sym (s .registers) t;
   line = line t;

@@ -13,7 +13,7 @@ use lib.IntN.{ℤ, pos, _*ℤ_}
 use borrow.Author.Tests.{ltb-true, ltb-false}
 use Rattle.params.specs.Judge.{rowOf, rowsFaults, rowsOutside}
 use Rattle.params.proofs.RowsOf.{row-long, row-part, row-light, row-centred}
-use Rattle.fixed.specs.declared.Pair.{Pair}
+use Rattle.state.specs.declared.Pair.{Pair}
 use Rattle.fixed.specs.Line.{nthNewest}
 use Rattle.fixed.specs.Filter.{sumTo, sumsOf}
 use Rattle.fixed.specs.Inside.{lowered, Twice, Laid, sumOver, sumsOver, Row, DetectorRow}

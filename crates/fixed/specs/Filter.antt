@@ -5,8 +5,8 @@ use mathlib.Core.List.{List, [], _∷_}
 use lib.ListN.{getD}
 use lib.IntN.{ℤ, pos, _+ℤ_, _*ℤ_}
 use Rattle.params.specs.Judge.{Sheet, rowOf}
-use Rattle.fixed.specs.declared.Pair.{Pair}
-use Rattle.fixed.specs.declared.Sums.{Sums}
+use Rattle.symbol.specs.declared.Sums.{Sums}
+use Rattle.state.specs.declared.Pair.{Pair}
 use Rattle.fixed.specs.Line.{nthNewest}
 
 -- f 0 + f 1 + .. + f (n - 1).

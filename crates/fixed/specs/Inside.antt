@@ -1,23 +1,26 @@
 -- How a block keeps the line and the waiting errors while it runs, and what the functions inside it promise one another.
 -- Nothing of it shows outside: a block is given a state and hands one back (Block.antt).
-use Prim.Native.Nat.{ℕ, _+_, _≤_, _<_}
+use Prim.Native.Nat.{ℕ, _+_, _*_, _≤_, _<_}
 use mathlib.Core.Path.{_≡_}
-use mathlib.Core.Bool.{true}
-use mathlib.Core.List.{List, []}
-use lib.ListN.{length, getD}
+use mathlib.Core.Bool.{Bool, true, cond}
+use mathlib.Core.List.{List, [], _∷_, _++_}
+use lib.Dec.{ltb}
+use lib.ListN.{length, getD, drop}
 use lib.IntN.{ℤ, pos, _-ℤ_, _*ℤ_}
-use Rattle.params.specs.declared.Params.{Params}
 use Rattle.params.specs.Refusal.{nothing}
-use Rattle.params.specs.Judge.{sheetOf, magnitudes, zeroOutside, judged}
-use Rattle.fixed.specs.declared.Pair.{Pair}
-use Rattle.fixed.specs.declared.Pending.{Pending}
-use Rattle.fixed.specs.declared.Registers.{Registers}
-use Rattle.fixed.specs.declared.Frontend.{Frontend}
-use Rattle.fixed.specs.declared.Position.{Position}
-use Rattle.fixed.specs.declared.Sums.{Sums}
-use Rattle.fixed.specs.Start.{noPair, noPending}
+use Rattle.params.specs.Judge.{Sheet, magnitudes, zeroOutside, judged}
+use Rattle.registers.specs.declared.Pending.{Pending}
+use Rattle.registers.specs.declared.Registers.{Registers}
+use Rattle.symbol.specs.declared.Sums.{Sums}
+use Rattle.symbol.specs.declared.Symbol.{Symbol}
+use Rattle.state.specs.declared.Pair.{Pair}
+use Rattle.state.specs.declared.Frontend.{Frontend}
+use Rattle.state.specs.declared.Position.{Position}
+use Rattle.state.specs.Start.{noPair, noPending}
 use Rattle.fixed.specs.Filter.{sumTo}
-use Rattle.fixed.specs.Block.{goodState}
+use Rattle.fixed.specs.Sample.{symbolOf, withSymbol, next, madeBy, after, emitted}
+use Rattle.state.specs.Check.{goodState, outline}
+use Rattle.fixed.specs.Block.{pairsOf, flattened}
 
 -- ---- the line
 
@@ -37,6 +40,11 @@ pub record Laid (taps : ℕ) (i q : List ℕ) (line : List Pair) : Type 0 where
   pub in-i : Twice taps i (λ n. getD line n noPair .i)
   pub in-q : Twice taps q (λ n. getD line n noPair .q)
 
+-- A line put together of both components: its first `taps` places as they are in these, the others as they were.
+pub record Packed (taps : ℕ) (i q : List ℕ) (line packed : List Pair) : Type 0 where
+  pub long : length packed ≡ 64
+  pub each : (n : ℕ) → getD packed n noPair ≡ cond (ltb n taps) (record { i = lowered (getD i n 0); q = lowered (getD q n 0) }) (getD line n noPair)
+
 -- ---- the filter
 
 -- A row's sum over as many numbers of the line.
@@ -45,6 +53,10 @@ sumOver row kept = sumTo (λ n. getD row n (pos 0) *ℤ lowered (getD kept n 0))
 
 unfoldable pub sumsOver : List ℤ → List ℕ → List ℕ → Sums
 sumsOver row i q = record { i = sumOver row i; q = sumOver row q }
+
+-- Sums of a row's raised coefficients over raised numbers, without what the raising has added: 2^17 times the numbers' sum and 2^31 times the coefficients'.
+abbrev pub unraised : ℕ → ℕ → ℤ → ℤ
+unraised raised numbers coefficients = pos raised -ℤ pos numbers *ℤ pos 131072 -ℤ coefficients *ℤ pos 2147483648
 
 -- A row that judging accepts, with as many numbers of both components of the line.
 pub record Row (row : List ℤ) (i q : List ℕ) : Type 0 where
@@ -60,52 +72,86 @@ pub record DetectorRow (row : List ℤ) (i q : List ℕ) : Type 0 where
 
 -- ---- the waiting errors
 
--- The 24 places of the queue, timing errors and gain errors apart.
+-- The errors at a place, of timing errors and gain errors kept apart.
+abbrev pub errorsAt : List ℤ → List ℤ → ℕ → Pending
+errorsAt e err n = record { e = getD e n (pos 0); err = getD err n (pos 0) }
+
+-- The 24 places of the queue so.
 pub record Queued (e err : List ℤ) (pending : List Pending) : Type 0 where
   pub long-e : length e ≡ 24
   pub long-err : length err ≡ 24
   pub long : length pending ≡ 24
-  pub each : (n : ℕ) → n < 24 → getD pending n noPending ≡ record { e = getD e n (pos 0); err = getD err n (pos 0) }
+  pub each : (n : ℕ) → n < 24 → getD pending n noPending ≡ errorsAt e err n
 
--- ---- the state
+-- ---- what a block keeps
 
--- A state of which only the registers and positions count.
-abbrev pub bare : Registers → Position → Frontend
-bare r w = record { registers = r; line = []; head = w .head; pending = []; oldest = w .oldest; waiting = w .waiting; samples = w .samples }
+-- The line's two components, timing and gain errors, the registers, and where the block stands.
+pub record Kept : Type 0 where
+  pub i : List ℕ
+  pub q : List ℕ
+  pub e : List ℤ
+  pub err : List ℤ
+  pub registers : Registers
+  pub position : Position
 
--- What a block keeps stands for the state f.
-pub record Stands (taps : ℕ) (i q : List ℕ) (e err : List ℤ) (r : Registers) (w : Position) (f : Frontend) : Type 0 where
-  pub line : Laid taps i q (f .line)
-  pub queue : Queued e err (f .pending)
-  pub registers : f .registers ≡ r
-  pub head : f .head ≡ w .head
-  pub oldest : f .oldest ≡ w .oldest
-  pub waiting : f .waiting ≡ w .waiting
-  pub samples : f .samples ≡ w .samples
+abbrev pub kept : List ℕ → List ℕ → List ℤ → List ℤ → Registers → Position → Kept
+kept i q e err r w = record { i = i; q = q; e = e; err = err; registers = r; position = w }
 
--- A sheet that is accepted, registers and a position from which a symbol can be made, and both components of the line at their size.
-pub record Tuned (p : Params) (h g k : List ℤ) (i q : List ℕ) (r : Registers) (w : Position) : Type 0 where
-  pub accepted : judged (sheetOf p h g k) ≡ nothing
-  pub head : w .head < p .taps
+-- What is kept stands for the state f.
+pub record Stands (taps : ℕ) (x : Kept) (f : Frontend) : Type 0 where
+  pub line : Laid taps (x .i) (x .q) (f .line)
+  pub queue : Queued (x .e) (x .err) (f .pending)
+  pub registers : f .registers ≡ x .registers
+  pub head : f .head ≡ x .position .head
+  pub oldest : f .oldest ≡ x .position .oldest
+  pub waiting : f .waiting ≡ x .position .waiting
+  pub samples : f .samples ≡ x .position .samples
+
+-- A sheet that is accepted, registers and positions that a block can go on from, and arrays at their sizes.
+pub record Begun (s : Sheet) (x : Kept) : Type 0 where
+  pub accepted : judged s ≡ nothing
+  pub good : goodState (s .params) (outline (x .registers) (x .position)) ≡ true
+  pub long-i : length (x .i) ≡ 128
+  pub long-q : length (x .q) ≡ 128
+  pub long-e : length (x .e) ≡ 24
+  pub long-err : length (x .err) ≡ 24
+
+-- The same, with room for one sample more.
+pub record Ready (s : Sheet) (x : Kept) : Type 0 where
+  pub begun : Begun s x
+  pub room : x .position .samples < 9223372036854775807
+
+-- A sheet that is accepted, a position in the line, a gain accumulator of 24 bits, and both components of the line at their size.
+pub record Tuned (s : Sheet) (i q : List ℕ) (r : Registers) (w : Position) : Type 0 where
+  pub accepted : judged s ≡ nothing
+  pub head : w .head < s .params .taps
   pub gain : r .«gain_acc» ≤ 16777215
   pub long-i : length i ≡ 128
   pub long-q : length q ≡ 128
 
--- A sheet that is accepted, a state that a block can go on from, and arrays at their sizes.
-pub record Begun (p : Params) (h g k : List ℤ) (i q : List ℕ) (e err : List ℤ) (r : Registers) (w : Position) : Type 0 where
-  pub accepted : judged (sheetOf p h g k) ≡ nothing
-  pub good : goodState p (bare r w) ≡ true
-  pub long-i : length i ≡ 128
-  pub long-q : length q ≡ 128
-  pub long-e : length e ≡ 24
-  pub long-err : length err ≡ 24
+-- ---- what a sample and a block leave
 
--- A sheet that is accepted, a state that a block can go on from with room for one sample more, and arrays at their sizes.
-pub record Ready (p : Params) (h g k : List ℤ) (i q : List ℕ) (e err : List ℤ) (r : Registers) (w : Position) : Type 0 where
-  pub accepted : judged (sheetOf p h g k) ≡ nothing
-  pub good : goodState p (bare r w) ≡ true
-  pub room : w .samples < 9223372036854775807
-  pub long-i : length i ≡ 128
-  pub long-q : length q ≡ 128
-  pub long-e : length e ≡ 24
-  pub long-err : length err ≡ 24
+-- A block can go on, one sample later.
+pub record GoesOn (s : Sheet) (x y : Kept) : Type 0 where
+  pub good : goodState (s .params) (outline (y .registers) (y .position)) ≡ true
+  pub samples : y .position .samples ≡ x .position .samples + 1
+
+-- A symbol: it is that of any state which what was kept stands for, and what is kept then stands for this state after it.
+pub record MakesSymbol (s : Sheet) (x y : Kept) (symbol : Symbol) : Type 0 where
+  pub on : GoesOn s x y
+  pub sample : symbol .sample ≡ x .position .samples
+  pub is : (f : Frontend) → Stands (s .params .taps) x f → symbol ≡ symbolOf s f
+  pub state : (f : Frontend) → Stands (s .params .taps) x f → Stands (s .params .taps) y (withSymbol s f)
+
+-- A sample, likewise: `made` says whether `symbol` was made at it.
+pub record Pushes (s : Sheet) (x y : Kept) (pair : Pair) (made : Bool) (symbol : Symbol) : Type 0 where
+  pub on : GoesOn s x y
+  pub sample : made ≡ true → symbol .sample ≡ x .position .samples
+  pub makes : (f : Frontend) → Stands (s .params .taps) x f → madeBy s f pair ≡ cond made (symbol ∷ []) []
+  pub state : (f : Frontend) → Stands (s .params .taps) x f → Stands (s .params .taps) y (next s f pair)
+
+-- All samples of a block: how many symbols they made, what the output then holds, and the state after them.
+pub record Runs (s : Sheet) (x y : Kept) (values out₀ out : List ℤ) (count : ℕ) : Type 0 where
+  pub counted : (f : Frontend) → Stands (s .params .taps) x f → count ≡ length (emitted s f (pairsOf values))
+  pub written : (f : Frontend) → Stands (s .params .taps) x f → out ≡ flattened (emitted s f (pairsOf values)) ++ drop (20 * count) out₀
+  pub state : (f : Frontend) → Stands (s .params .taps) x f → Stands (s .params .taps) y (after s f (pairsOf values))

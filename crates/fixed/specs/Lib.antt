@@ -1,12 +1,11 @@
--- What a reader has to believe of the front end, in the order in which a sample travels: from the fresh state through mixer, line, filter and loop to a
--- symbol, then a block of samples; what the functions inside a block promise one another; last, a symbol's part in the registers alone, for who is lent them.
-pub mod Start
+-- What a reader has to believe of the front end, in the order in which a sample travels: through mixer, line, filter and waiting errors to
+-- the state after it, then a block of samples. Behind them: what is claimed of a symbol and the registers, and what the functions inside a
+-- block promise one another.
 pub mod Mix
 pub mod Line
 pub mod Filter
-pub mod Loop
-pub mod Symbol
+pub mod Queue
 pub mod Sample
 pub mod Block
+pub mod OneStep
 pub mod Inside
-pub mod Lent

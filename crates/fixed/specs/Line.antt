@@ -5,8 +5,8 @@ use mathlib.Core.Bool.{cond}
 use mathlib.Core.List.{List}
 use lib.Dec.{eqb}
 use lib.ListN.{getD}
-use Rattle.fixed.specs.declared.Pair.{Pair}
-use Rattle.fixed.specs.Start.{noPair}
+use Rattle.state.specs.declared.Pair.{Pair}
+use Rattle.state.specs.Start.{noPair}
 
 -- Where the next sample goes, in the place of the oldest: one position down, and from 0 to the last.
 unfoldable pub nextHead : ℕ → ℕ → ℕ

@@ -6,7 +6,7 @@ use lib.Signed.{shrZ}
 use Rattle.arith.specs.Arith.{modZ}
 use Rattle.tables.specs.Wheel.{wheel}
 use Rattle.params.specs.declared.Params.{Params}
-use Rattle.fixed.specs.declared.Pair.{Pair}
+use Rattle.state.specs.declared.Pair.{Pair}
 
 -- A sum of two products with the wheel, brought back from its 15 fractional bits, a half upward.
 abbrev pub unscaled : ℤ → ℤ
@@ -20,5 +20,5 @@ mixed nco x =
     record { i = unscaled (x .i *ℤ c -ℤ x .q *ℤ s); q = unscaled (x .i *ℤ s +ℤ x .q *ℤ c) }
 
 -- The phase word of the next sample.
-unfoldable pub turned : Params → ℕ → ℕ
-turned p nco = modZ (pos nco +ℤ p .«nco_step») (2 ^ 32)
+unfoldable pub nextNco : Params → ℕ → ℕ
+nextNco p nco = modZ (pos nco +ℤ p .«nco_step») (2 ^ 32)

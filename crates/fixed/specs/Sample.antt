@@ -1,35 +1,34 @@
 -- One sample: it is mixed and joins the line, a symbol is made if one falls due, and the time goes on by a sample.
 -- (Document 01, 'A sample's way', steps 1 to 3.)
-use Prim.Native.Nat.{ℕ, _+_, _%_}
+use Prim.Native.Nat.{ℕ, _+_, _/_, _^_}
 use mathlib.Core.Bool.{Bool, cond}
 use mathlib.Core.List.{List, [], _∷_, _++_}
-use lib.Dec.{eqb}
 use lib.ListN.{set}
-use lib.IntN.{ℤ, pos, _+ℤ_, _-ℤ_}
+use lib.IntN.{natAbs, _-ℤ_}
 use lib.Signed.{ltZ}
 use Rattle.params.specs.declared.Params.{Params}
 use Rattle.params.specs.Judge.{Sheet}
-use Rattle.fixed.specs.declared.Pair.{Pair}
-use Rattle.fixed.specs.declared.Registers.{Registers}
-use Rattle.fixed.specs.declared.Frontend.{Frontend}
-use Rattle.fixed.specs.declared.Symbol.{Symbol}
-use Rattle.fixed.specs.Mix.{mixed, turned}
+use Rattle.registers.specs.declared.Registers.{Registers}
+use Rattle.registers.specs.Step.{one, found, left}
+use Rattle.symbol.specs.declared.Symbol.{Symbol}
+use Rattle.symbol.specs.Make.{symbolFrom}
+use Rattle.state.specs.declared.Pair.{Pair}
+use Rattle.state.specs.declared.Frontend.{Frontend}
+use Rattle.fixed.specs.Mix.{mixed, nextNco}
 use Rattle.fixed.specs.Line.{nextHead}
-use Rattle.fixed.specs.Loop.{loopDelay}
-use Rattle.fixed.specs.Symbol.{due, symbolOf}
+use Rattle.fixed.specs.Filter.{filtered}
+use Rattle.fixed.specs.Queue.{isFull, oldestErrors, queuedErrors, nextOldest, nextWaiting}
 
--- One sample, in 2^24ths.
-abbrev pub one : ℤ
-one = pos 16777216
+-- ---- steps 1 and 2
 
--- Steps 1 and 2: the sample is mixed, the phase word goes on, and the mixed sample is the line's newest.
+-- The sample is mixed, the phase word goes on, and the mixed sample is the line's newest.
 unfoldable pub joined : Sheet → Frontend → Pair → Frontend
 joined s f x =
     let p : Params = s .params in
     let r : Registers = f .registers in
     let head : ℕ = nextHead (p .taps) (f .head) in
     record {
-      registers = record { nco = turned p (r .nco); «t_acc» = r .«t_acc»; v = r .v; period = r .period; «gain_acc» = r .«gain_acc»; symbols = r .symbols };
+      registers = record { nco = nextNco p (r .nco); «t_acc» = r .«t_acc»; v = r .v; period = r .period; «gain_acc» = r .«gain_acc»; symbols = r .symbols };
       line = set (f .line) head (mixed (r .nco) x);
       head = head;
       pending = f .pending;
@@ -38,24 +37,35 @@ joined s f x =
       samples = f .samples;
     }
 
--- Step 3 with a symbol: the oldest errors are applied if 24 wait, and leave; the new ones join behind the newest; the next symbol is a period on.
--- The new errors go to (the oldest's position + count) modulo 24, which is the place that the oldest leave where 24 wait.
-unfoldable pub withSymbol : Sheet → Frontend → Frontend
-withSymbol s f =
-    let r : Registers = due (s .params) f in
-    let y : Symbol = symbolOf s f in
-    let full : Bool = eqb (f .waiting) loopDelay in
-    record {
-      registers = record { nco = r .nco; «t_acc» = r .«t_acc» +ℤ pos (r .period) -ℤ one; v = r .v; period = r .period; «gain_acc» = r .«gain_acc»; symbols = r .symbols + 1 };
-      line = f .line;
-      head = f .head;
-      pending = set (f .pending) ((f .oldest + f .waiting) % 24) (record { e = y .e; err = y .err });
-      oldest = cond full ((f .oldest + 1) % 24) (f .oldest);
-      waiting = cond full loopDelay (f .waiting + 1);
-      samples = f .samples + 1;
-    }
+-- ---- step 3 with a symbol
 
--- Step 3 without a symbol: only the time goes on.
+-- The registers as the symbol finds them: where as many errors wait as the loop's delay, the oldest are applied first.
+unfoldable pub due : Params → Frontend → Registers
+due p f = found p (f .registers) (isFull f) (oldestErrors f)
+
+-- The symbol that falls due in this state, once the sample has joined the line: its phase is the sixty-fourth of the sample that the time says.
+-- (Document 01, 'A sample's way': "A symbol".)
+unfoldable pub symbolOf : Sheet → Frontend → Symbol
+symbolOf s f =
+    let p : Params = s .params in
+    let phase : ℕ = natAbs (f .registers .«t_acc») / 2 ^ 18 in
+    symbolFrom p (due p f .«gain_acc» / 256) (due p f .period) (f .samples) phase (filtered s phase (f .line) (f .head))
+
+-- The registers are as the symbol leaves them, and its errors wait.
+unfoldable pub withSymbol : Sheet → Frontend → Frontend
+withSymbol s f = record {
+  registers = left (due (s .params) f);
+  line = f .line;
+  head = f .head;
+  pending = queuedErrors f (record { e = symbolOf s f .e; err = symbolOf s f .err });
+  oldest = nextOldest f;
+  waiting = nextWaiting f;
+  samples = f .samples + 1;
+}
+
+-- ---- step 3 without a symbol
+
+-- Only the time goes on.
 unfoldable pub withoutSymbol : Frontend → Frontend
 withoutSymbol f =
     let r : Registers = f .registers in
@@ -68,6 +78,8 @@ withoutSymbol f =
       waiting = f .waiting;
       samples = f .samples + 1;
     }
+
+-- ---- a sample, and samples one after the other
 
 -- A symbol falls due within this sample.
 abbrev pub falls : Frontend → Bool

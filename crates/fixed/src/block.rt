@@ -1,50 +1,21 @@
 // A block: samples in, symbols out (document 01: 'A block').
 //
 // The line and the waiting errors are taken out of the state into arrays of numbers, lent to each sample in turn, and put back at the end.
-use crate::Pair;
-use crate::Pending;
-use crate::Position;
-use crate::Registers;
-use crate::Symbol;
 use crate::line;
 use crate::sample;
 use params::Params;
+use registers::Pending;
+use registers::Registers;
+use state::Pair;
+use state::Position;
+use symbol::Symbol;
 ghost use mathlib.Core.Path.{_≡_};
-ghost use mathlib.Core.Bool.{true, cond};
-ghost use mathlib.Core.List.{_++_};
-ghost use Prim.Native.Nat.{ℕ, _+_, _*_, _/_, _≤_, _<_};
-ghost use lib.Dec.{ltb};
-ghost use lib.ListN.{length, getD, take, drop};
+ghost use mathlib.Core.Bool.{cond};
+ghost use Prim.Native.Nat.{_+_, _*_, _/_, _≤_};
+ghost use lib.ListN.{length};
 ghost use Rattle.params.specs.Judge.{sheetOf};
-ghost use Rattle.fixed.specs.declared.Frontend.{Frontend};
-ghost use Rattle.fixed.specs.Start.{noPair};
-ghost use Rattle.fixed.specs.Symbol.{placesOf};
-ghost use Rattle.fixed.specs.Sample.{after, emitted};
-ghost use Rattle.fixed.specs.Block.{goodState, pairsOf, flattened};
-ghost use Rattle.fixed.specs.Inside.{lowered, Laid, Queued, bare, Stands, Begun};
-
-// 9: whether a block can go on from these registers and positions.
-pub(crate) fn is_good_state(p: Params, r: Registers, w: Position) -> bool
-    ensures { λ b. ⌜ b ≡ goodState p (bare r w) ⌝ }
-{
-    let end = (p.integrator_max as i64) * 65536;
-    let waiting = if r.symbols < 24 {
-        r.symbols as usize
-    } else {
-        24
-    };
-    w.head < p.taps as usize
-        && 0 <= r.t_acc
-        && r.t_acc < 0x400_0000
-        && 0 - end <= r.v
-        && r.v <= end
-        && p.period_min <= r.period
-        && r.period <= p.period_max
-        && r.gain_acc <= 0xff_ffff
-        && w.waiting == waiting
-        && w.oldest <= 23
-        && r.symbols <= w.samples
-}
+ghost use Rattle.symbol.specs.Places.{putOf};
+ghost use Rattle.fixed.specs.Inside.{Laid, Packed, Queued, kept, Begun, Runs};
 
 // ---- the state, taken apart and put together
 
@@ -79,7 +50,7 @@ pub(crate) fn unpack_pending(pending: [Pending; 24], e: &mut [i32], err: &mut [i
 // The line with its first `taps` places as they now are; the others keep what they held.
 pub(crate) fn pack_line(line: [Pair; 64], taps: usize, i: &[u32], q: &[u32]) -> [Pair; 64]
     requires { ⌜ (taps ≤ 64) × ((length (now i) ≡ 128) × (length (now q) ≡ 128)) ⌝ }
-    ensures { λ r. ⌜ (length r ≡ 64) × ((n : ℕ) → getD r n noPair ≡ cond (ltb n taps) (record { i = lowered (getD (now (i .entry)) n 0); q = lowered (getD (now (q .entry)) n 0) }) (getD line n noPair)) ⌝ }
+    ensures { λ r. ⌜ Packed taps (now (i .entry)) (now (q .entry)) line r ⌝ }
 {
     let mut packed = line;
     let mut n: usize = 0;
@@ -109,71 +80,18 @@ pub(crate) fn pack_pending(pending: [Pending; 24], e: &[i32], err: &[i32]) -> [P
     packed
 }
 
-// ---- the symbols' places
+// ---- all samples of a block
 
-// A symbol's 20 places.
-fn places(y: Symbol) -> [i64; 20]
-    requires { ⌜ y .sample ≤ 9223372036854775807 ⌝ }
-    ensures { λ r. ⌜ r ≡ placesOf y ⌝ }
-{
-    let a = y.y;
-    let b = y.dy;
-    let c = y.yk;
-    let d = y.z;
-    let f = y.dz;
-    let g = y.zk;
-    let o = y.q;
-    [
-        y.sample as i64,
-        y.phase as i64,
-        a.i as i64,
-        a.q as i64,
-        b.i as i64,
-        b.q as i64,
-        c.i as i64,
-        c.q as i64,
-        y.gain as i64,
-        y.period as i64,
-        d.i as i64,
-        d.q as i64,
-        f.i as i64,
-        f.q as i64,
-        g.i as i64,
-        g.q as i64,
-        o.i as i64,
-        o.q as i64,
-        y.e as i64,
-        y.err as i64,
-    ]
-}
-
-// 20 numbers go to the output from place w on.
-fn write(out: &mut [i64], w: usize, symbol: &[i64; 20])
-    requires { ⌜ (w + 20 ≤ length (now out)) × (length (now symbol) ≡ 20) ⌝ }
-    ensures { λ _. ⌜ now (out .exit) ≡ take w (now (out .entry)) ++ (now (symbol .entry) ++ drop (w + 20) (now (out .entry))) ⌝ }
-{
-    let mut j: usize = 0;
-    while j < 20 {
-        let v = symbol[j];
-        out[w + j] = v;
-        j += 1;
-    }
-}
-
-// Writes a symbol behind those that were written before it, if one was made; says how many there then are.
+// A symbol goes behind `count` others, if one was made; the answer is how many there then are.
 fn emit(out: &mut [i64], count: usize, made: bool, y: Symbol) -> usize
-    requires { ⌜ (20 * count + 20 ≤ length (now out)) × (made ≡ true → y .sample ≤ 9223372036854775807) ⌝ }
-    ensures { λ r. ⌜ (r ≡ cond made (count + 1) count) × (now (out .exit) ≡ cond made (take (20 * count) (now (out .entry)) ++ (placesOf y ++ drop (20 * count + 20) (now (out .entry)))) (now (out .entry))) ⌝ }
+    ensures { λ r. ⌜
+        record { count = r; output = now (out .exit) } ≡ cond made (putOf y count (now (out .entry))) (record { count = count; output = now (out .entry) }) ⌝ }
 {
     if !made {
         return count;
     }
-    let symbol = places(y);
-    write(&mut *out, 20 * count, &symbol);
-    count + 1
+    y.put(count, &mut *out)
 }
-
-// ---- all samples of a block
 
 // What a block leaves: registers and positions after its last sample, and how many symbols it wrote.
 pub(crate) struct Ran {
@@ -196,10 +114,13 @@ pub(crate) fn run(
     r: Registers,
     w: Position,
 ) -> Ran
-    requires { ⌜ Begun p (now h) (now g) (now k) (now i) (now q) (now e) (now err) r w ⌝ }
+    requires { ⌜ Begun (sheetOf p (now h) (now g) (now k)) (kept (now i) (now q) (now e) (now err) r w) ⌝ }
     requires { ⌜ (20 * (length (now values) / 2) ≤ length (now out)) × (w .samples + length (now values) / 2 ≤ 9223372036854775807) ⌝ }
-    ensures { λ s. ⌜ ((f : Frontend) → Stands (p .taps) (now (i .entry)) (now (q .entry)) (now (e .entry)) (now (err .entry)) r w f → (s .count ≡ length (emitted (sheetOf p (now (h .entry)) (now (g .entry)) (now (k .entry))) f (pairsOf (now (values .entry))))) × (now (out .exit) ≡ flattened (emitted (sheetOf p (now (h .entry)) (now (g .entry)) (now (k .entry))) f (pairsOf (now (values .entry)))) ++ drop (20 * s .count) (now (out .entry)))) ⌝ }
-    ensures { λ s. ⌜ ((f : Frontend) → Stands (p .taps) (now (i .entry)) (now (q .entry)) (now (e .entry)) (now (err .entry)) r w f → Stands (p .taps) (now (i .exit)) (now (q .exit)) (now (e .exit)) (now (err .exit)) (s .registers) (s .position) (after (sheetOf p (now (h .entry)) (now (g .entry)) (now (k .entry))) f (pairsOf (now (values .entry))))) ⌝ }
+    ensures { λ s. ⌜
+        Runs (sheetOf p (now (h .entry)) (now (g .entry)) (now (k .entry)))
+        (kept (now (i .entry)) (now (q .entry)) (now (e .entry)) (now (err .entry)) r w)
+        (kept (now (i .exit)) (now (q .exit)) (now (e .exit)) (now (err .exit)) (s .registers) (s .position))
+        (now (values .entry)) (now (out .entry)) (now (out .exit)) (s .count) ⌝ }
 {
     let cos = tables::cos_table();
     let mut registers = r;

@@ -1,13 +1,13 @@
 // The filter: the sums of three rows over the line (document 01: "the three banks' sums for I and Q").
 //
-// The machine multiplies unsigned numbers two at a time. So the numbers of the line come raised by 2^31, and each coefficient is raised here by 2^17. What that adds to a row's sum,
-// 2^31 times the sum of its coefficients and 2^17 times the sum of the line's numbers, is taken off at the end.
-use crate::Sums;
+// The machine multiplies unsigned numbers two at a time. So the numbers of the line come raised by 2^31, and each coefficient is raised here by 2^17. What
+// that adds to a row's sum, 2^31 times the sum of its coefficients and 2^17 times the sum of the line's numbers, is taken off at the end.
+use symbol::Sums;
 ghost use mathlib.Core.Path.{_≡_};
 ghost use mathlib.Core.List.{_∷_, []};
 ghost use Prim.Native.Nat.{_+_, _*_, _^_, _≤_};
-ghost use lib.IntN.{pos, natAbs, _+ℤ_, _-ℤ_, _*ℤ_};
-ghost use Rattle.fixed.specs.Inside.{sumsOver, Row, DetectorRow};
+ghost use lib.IntN.{pos, natAbs, _+ℤ_};
+ghost use Rattle.fixed.specs.Inside.{sumsOver, unraised, Row, DetectorRow};
 
 // ---- a row's sums, tap by tap
 
@@ -31,7 +31,11 @@ fn no_tap() -> Raised
 fn with_tap(s: Raised, c: i32, x: u32, y: u32) -> Raised
     requires { ⌜ (natAbs c ≤ 131071) × (natAbs (s .coefficients) ≤ 131071) ⌝ }
     requires { ⌜ (s .i ≤ 2 ^ 62) × (s .q ≤ 2 ^ 62) ⌝ }
-    ensures { λ r. ⌜ r ≡ record { i = s .i + natAbs (c +ℤ pos 131072) * x; q = s .q + natAbs (c +ℤ pos 131072) * y; coefficients = s .coefficients +ℤ c } ⌝ }
+    ensures { λ r. ⌜ r ≡ record {
+      i = s .i + natAbs (c +ℤ pos 131072) * x;
+      q = s .q + natAbs (c +ℤ pos 131072) * y;
+      coefficients = s .coefficients +ℤ c;
+    } ⌝ }
 {
     let k = (c + 131072) as u32 as u64;
     Raised {
@@ -67,7 +71,7 @@ fn with_pair(s: Level, x: u32, y: u32) -> Level
 fn lowered(s: Raised, line: Level) -> Sums
     requires { ⌜ (s .i ≤ 2 ^ 57) × ((s .q ≤ 2 ^ 57) × (natAbs (s .coefficients) ≤ 131071)) ⌝ }
     requires { ⌜ (line .i ≤ 2 ^ 38) × (line .q ≤ 2 ^ 38) ⌝ }
-    ensures { λ r. ⌜ r ≡ record { i = pos (s .i) -ℤ pos (line .i) *ℤ pos 131072 -ℤ s .coefficients *ℤ pos 2147483648; q = pos (s .q) -ℤ pos (line .q) *ℤ pos 131072 -ℤ s .coefficients *ℤ pos 2147483648 } ⌝ }
+    ensures { λ r. ⌜ r ≡ record { i = unraised (s .i) (line .i) (s .coefficients); q = unraised (s .q) (line .q) (s .coefficients) } ⌝ }
 {
     let raised = (s.coefficients as i64) * 0x8000_0000;
     Sums {
@@ -82,7 +86,10 @@ fn lowered(s: Raised, line: Level) -> Sums
 fn detector_sums(h: &[i32], g: &[i32], i: &[u32], q: &[u32]) -> [Sums; 2]
     requires { ⌜ Row (now h) (now i) (now q) ⌝ }
     requires { ⌜ Row (now g) (now i) (now q) ⌝ }
-    ensures { λ r. ⌜ r ≡ sumsOver (now (h .entry)) (now (i .entry)) (now (q .entry)) ∷ sumsOver (now (g .entry)) (now (i .entry)) (now (q .entry)) ∷ [] ⌝ }
+    ensures { λ r. ⌜
+        r ≡ sumsOver (now (h .entry)) (now (i .entry)) (now (q .entry))
+        ∷ sumsOver (now (g .entry)) (now (i .entry)) (now (q .entry))
+        ∷ [] ⌝ }
 {
     let mut a = no_tap();
     let mut b = no_tap();
@@ -122,7 +129,11 @@ pub(crate) fn filter(h: &[i32], g: &[i32], k: &[i32], i: &[u32], q: &[u32]) -> [
     requires { ⌜ DetectorRow (now h) (now i) (now q) ⌝ }
     requires { ⌜ DetectorRow (now g) (now i) (now q) ⌝ }
     requires { ⌜ Row (now k) (now i) (now q) ⌝ }
-    ensures { λ r. ⌜ r ≡ sumsOver (now (h .entry)) (now (i .entry)) (now (q .entry)) ∷ sumsOver (now (g .entry)) (now (i .entry)) (now (q .entry)) ∷ sumsOver (now (k .entry)) (now (i .entry)) (now (q .entry)) ∷ [] ⌝ }
+    ensures { λ r. ⌜
+        r ≡ sumsOver (now (h .entry)) (now (i .entry)) (now (q .entry))
+        ∷ sumsOver (now (g .entry)) (now (i .entry)) (now (q .entry))
+        ∷ sumsOver (now (k .entry)) (now (i .entry)) (now (q .entry))
+        ∷ [] ⌝ }
 {
     let d = params::detector_of(k.len());
     let low = d.low;

@@ -1,5 +1,5 @@
 // The mixer: a sample is turned by the phase word, and the phase word goes on (document 01: step 1 of a sample's way).
-use crate::Pair;
+use state::Pair;
 ghost use mathlib.Core.Path.{_≡_};
 ghost use Prim.Native.Nat.{_^_, _≤_};
 ghost use lib.IntN.{pos, natAbs, _+ℤ_};
@@ -32,7 +32,7 @@ pub(crate) fn mix(cos: &[i16; 1024], nco: u32, i: i16, q: i16) -> Pair
 }
 
 // The phase word of the next sample: the step is added as 32 bits unsigned, modulo 2^32.
-pub(crate) fn turn(nco: u32, step: i32) -> u32
+pub(crate) fn next_nco(nco: u32, step: i32) -> u32
     ensures { λ r. ⌜ r ≡ modZ (pos nco +ℤ step) (2 ^ 32) ⌝ }
 {
     std::num::wrapping_add_u32(nco, arith::wrap_u32(step as i64))

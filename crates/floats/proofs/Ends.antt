@@ -2,8 +2,7 @@
 use Prim.Native.Nat.{ℕ, suc, _+_, _-_, _*_, _/_, _^_, _≤_, _<_, min}
 use mathlib.Core.Path.{_≡_, refl, sym, ap, _∙_}
 use mathlib.Core.Bool.{Bool, true, false, not, cond, _||_}
-use native.Mathlib.Nat.{mul-one, one-mul, zero-mul, mul-pos, mul-right-comm, min-eq-left, min-eq-right, div-lt-iff-lt-mul, le-div-iff-mul-le, le-of-lt, le-of-eq, lt-of-le-of-lt}
-use native.Mathlib.Nat.{lt-of-lt-of-le, lt-of-mul-lt-mul-right, mul-lt-mul-of-pos-right}
+use native.Mathlib.Nat.{mul-one, one-mul, zero-mul, mul-pos, mul-right-comm, min-eq-left, min-eq-right, div-lt-iff-lt-mul, le-div-iff-mul-le, le-of-lt, le-of-eq, lt-of-le-of-lt, lt-of-lt-of-le, lt-of-mul-lt-mul-right, mul-lt-mul-of-pos-right}
 use native.Mathlib.Omega.{arith}
 use lib.Dec.{T, ltb, ltb→lt, lt→ltb, nltb→le}
 use lib.Pow.{pow-pos}

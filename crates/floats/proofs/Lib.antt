@@ -3,4 +3,3 @@ pub mod Doubled
 pub mod Ends
 pub mod Rounded
 pub mod Narrow
-pub mod Patterns

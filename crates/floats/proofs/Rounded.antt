@@ -2,8 +2,7 @@
 use Prim.Native.Nat.{ℕ, zero, suc, _+_, _-_, _*_, _/_, _%_, _^_, _≤_, _<_, min}
 use mathlib.Core.Path.{_≡_, refl, sym, ap, _∙_}
 use mathlib.Core.Bool.{Bool, true, false, not, cond}
-use native.Mathlib.Nat.{mul-left-comm, div-add-mod, mod-lt, mul-add-div, div-eq-of-lt, div-eq-of-lt-le, div-one, mod-one, mul-one, lt-of-lt-of-le, mul-le-mul-right}
-use native.Mathlib.Nat.{div-lt-iff-lt-mul}
+use native.Mathlib.Nat.{mul-left-comm, div-add-mod, mod-lt, mul-add-div, div-eq-of-lt, div-eq-of-lt-le, div-one, mod-one, mul-one, lt-of-lt-of-le, mul-le-mul-right, div-lt-iff-lt-mul}
 use native.Mathlib.Omega.{arith}
 use lib.Dec.{T, ltb, lit≤}
 use lib.IntN.{ℤ, pos, negsuc, negℤ, _+ℤ_}

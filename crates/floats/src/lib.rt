@@ -1,13 +1,13 @@
-// Floats as whole numbers: cut toward zero or rounded, and held to an integer type. And floats by their bits.
+// Floats as whole numbers: cut toward zero or rounded, and held to an integer type.
 //
 // The language casts a float only where nothing is lost. These casts lose what Rust's lose: the fraction, what lies past an end of the type, and a NaN, which
 // becomes 0. Every function here is total.
 ghost use mathlib.Core.Path.{_≡_};
-ghost use lib.Ieee.{binary32, binary64, ofBits, toBits, toUnsigned, toSigned};
+ghost use lib.Ieee.{toUnsigned, toSigned};
 ghost use Rattle.floats.specs.Whole.{roundAway};
 
 // `x as i64`.
-pub fn cut_i64(x: f64) -> i64
+fn cut_i64(x: f64) -> i64
     ensures { λ r. ⌜ r ≡ toSigned 63 x ⌝ }
 {
     if x >= -9223372036854775808.0 {
@@ -57,34 +57,4 @@ pub fn round_u32(x: f64) -> u32
     ensures { λ r. ⌜ r ≡ toUnsigned 32 (roundAway x) ⌝ }
 {
     arith::clamp(round_i64(x), 0, 0xffff_ffff) as u32
-}
-
-// The f32 of a bit pattern. The language reads none of a NaN's patterns, which all stand for the same here.
-pub fn f32_from_bits(bits: u32) -> f32
-    ensures { λ r. ⌜ r ≡ ofBits binary32 bits ⌝ }
-{
-    if 0x7f80_0000 < bits % 0x8000_0000 {
-        return 0.0 / 0.0;
-    }
-    f32::from_bits(bits)
-}
-
-// The f64 of a bit pattern.
-pub fn f64_from_bits(bits: u64) -> f64
-    ensures { λ r. ⌜ r ≡ ofBits binary64 bits ⌝ }
-{
-    if 0x7ff0_0000_0000_0000 < bits % 0x8000_0000_0000_0000 {
-        return 0.0 / 0.0;
-    }
-    f64::from_bits(bits)
-}
-
-// The bit pattern of an f64; one of them for every NaN.
-pub fn f64_to_bits(x: f64) -> u64
-    ensures { λ r. ⌜ r ≡ toBits binary64 x ⌝ }
-{
-    if x != x {
-        return 0x7ff8_0000_0000_0000;
-    }
-    f64::to_bits(x)
 }

@@ -1,21 +1,15 @@
--- What the front end takes of a float sample, whose full scale is ±1.
+-- What the front end takes of a float sample, whose full scale is ±1. Each component is made by itself.
 -- (Document 01, 'A float sample'.)
 use mathlib.Core.Bool.{false}
 use lib.IntN.{ℤ, pos}
 use lib.Ieee.{Float, fin, binary32, mul, toSigned}
 use Rattle.floats.specs.Whole.{roundAway}
-use Rattle.input.specs.declared.Complex32.{Complex32}
-use Rattle.input.specs.declared.Sample.{Sample}
 
 -- 2048, as a float.
 abbrev pub fullScale : Float
 fullScale = fin false 1 (pos 11)
 
--- One component: times 2048, where the product is an f32 and rounded as one; to the nearest whole number, ties away from zero; held to 11 bits and a sign,
+-- A component: times 2048, where the product is an f32 and rounded as one; to the nearest whole number, ties away from zero; held to 11 bits and a sign,
 -- which are the numbers from -2048 to 2047. A NaN becomes 0.
 unfoldable pub componentOf : Float → ℤ
 componentOf x = toSigned 11 (roundAway (mul binary32 x fullScale))
-
--- Both components, each by itself.
-unfoldable pub sampleOf : Complex32 → Sample
-sampleOf v = record { i = componentOf (v .re); q = componentOf (v .im) }

@@ -9,10 +9,10 @@ use lib.ListN.{length, getD, take, drop, replicate, length-append, length-drop, 
 use lib.Seq.{take-all, take-at, drop-at, length-take-le, drop-drop}
 use lib.IntN.{ℤ}
 use borrow.Author.Tests.{eq-eqb}
-use Rattle.fixed.specs.declared.Pair.{Pair}
-use Rattle.fixed.specs.declared.Pending.{Pending}
-use Rattle.fixed.specs.declared.Frontend.{Frontend}
-use Rattle.fixed.specs.Start.{noPair, noPending}
+use Rattle.state.specs.declared.Pair.{Pair}
+use Rattle.registers.specs.declared.Pending.{Pending}
+use Rattle.state.specs.declared.Frontend.{Frontend}
+use Rattle.state.specs.Start.{noPair, noPending}
 use Rattle.kinds.specs.Kinds.{at, i32, isKind, areKinds}
 use Rattle.places.specs.States.{flatPairs, lineOf, pendingOf, lineNumbers, pendingNumbers, stateKinds, stateFits, stateOf, numbersOf}
 use Rattle.places.specs.Crossing.{Whole, Typed, StatesCross}

@@ -5,7 +5,7 @@ use mathlib.Core.Bool.{Bool, true, _&&_}
 use lib.Dec.{leb}
 use borrow.Author.Tests.{leb-true, le-leb}
 use Rattle.arith.proofs.Both.{and-left, and-right, and-both}
-use Rattle.fixed.specs.declared.Frontend.{Frontend}
+use Rattle.state.specs.declared.Frontend.{Frontend}
 use Rattle.places.specs.States.{areCounts, hasPlaces}
 
 pub record Placed (f : Frontend) : Type 0 where

@@ -6,8 +6,8 @@ use mathlib.Core.List.{List}
 use lib.ListN.{length, getD}
 use lib.IntN.{ℤ, pos}
 use Rattle.params.specs.declared.Params.{Params}
-use Rattle.fixed.specs.declared.Frontend.{Frontend}
-use Rattle.fixed.specs.Start.{noPair, noPending}
+use Rattle.state.specs.declared.Frontend.{Frontend}
+use Rattle.state.specs.Start.{noPair, noPending}
 use Rattle.kinds.specs.Kinds.{u8, u32, i16, i32, i64, count, isKind}
 use Rattle.places.specs.Sheet.{sheetNumber, paramsAt, sheetNumbers}
 use Rattle.places.specs.States.{stateFits, stateOf, numbersOf}

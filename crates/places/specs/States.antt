@@ -6,10 +6,10 @@ use mathlib.Core.List.{List, [], _∷_, _++_}
 use lib.Dec.{eqb, leb}
 use lib.ListN.{length, take, drop, replicate}
 use lib.IntN.{ℤ, pos, natAbs}
-use Rattle.fixed.specs.declared.Pair.{Pair}
-use Rattle.fixed.specs.declared.Pending.{Pending}
-use Rattle.fixed.specs.declared.Frontend.{Frontend}
-use Rattle.fixed.specs.Start.{atRest}
+use Rattle.state.specs.declared.Pair.{Pair}
+use Rattle.registers.specs.declared.Pending.{Pending}
+use Rattle.state.specs.declared.Frontend.{Frontend}
+use Rattle.state.specs.Start.{atRest}
 use Rattle.kinds.specs.Kinds.{at, u32, i32, i64, count, areKinds}
 use Rattle.places.specs.declared.ReadState.{ReadState}
 use Rattle.places.specs.Answer.{Answer, answered}

@@ -9,13 +9,13 @@ mod states;
 
 use design::Design;
 use design::Gains;
-use fixed::Frontend;
 use params::Params;
 pub use rates::read_design;
 pub use sheet::no_sheet;
 pub use sheet::read_sheet;
 pub use sheet::sheet_kinds;
 pub use sheet::write_sheet;
+use state::Frontend;
 pub use states::read_state;
 pub use states::write_state;
 

@@ -2,15 +2,15 @@
 // e, err of the waiting errors, both as they are stored.
 use crate::ReadState;
 use crate::numbers;
-use fixed::Frontend;
-use fixed::Pair;
-use fixed::Pending;
-use fixed::Registers;
+use registers::Pending;
+use registers::Registers;
+use state::Frontend;
+use state::Pair;
 ghost use mathlib.Core.Path.{_≡_};
 ghost use mathlib.Core.Bool.{true};
 ghost use mathlib.Core.List.{_++_};
 ghost use lib.ListN.{length, take, drop};
-ghost use Rattle.fixed.specs.Start.{atRest};
+ghost use Rattle.state.specs.Start.{atRest};
 ghost use Rattle.places.specs.States.{stateKinds, stateFits, stateOf, readState, lineOf, pendingOf};
 ghost use Rattle.places.specs.States.{areCounts, hasPlaces, firstNumbers, lineNumbers, pendingNumbers, stateWritten};
 

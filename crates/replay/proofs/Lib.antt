@@ -1,2 +1,4 @@
--- Laws of lists and of tests that the proofs share.
+-- Laws of lists, of tests, of reading and of floats by their bits that the proofs share.
 mod Laws
+mod Reading
+mod Patterns

@@ -1,10 +1,10 @@
 -- Banks in the room that they share.
 use Prim.Native.Nat.{ℕ, _-_, min}
 use mathlib.Core.List.{List, map}
-use lib.ListN.{length}
-use lib.Seq.{paste}
+use lib.ListN.{take}
+use lib.Seq.{sets}
 use lib.IntN.{ℤ}
-use Rattle.arith.specs.Arith.{wrapI32}
+use Rattle.arith.specs.Arith.{narrowI32}
 use Rattle.replay.specs.declared.banks.Banks.{Banks}
 
 abbrev pub noBanks : Banks
@@ -14,7 +14,6 @@ noBanks = record { h = 0; g = 0; k = 0 }
 abbrev pub keptOf : ℕ → ℕ → ℕ → ℕ
 keptOf n places from = min n (min 8192 (places - min from places))
 
--- The room with these coefficients from a place on, each as 32 bits signed.
+-- The room with these coefficients from a place on.
 abbrev pub roomWith : List ℤ → List ℤ → ℕ → List ℤ
-roomWith coefficients room from =
-    paste room (min from (length room)) (map wrapI32 coefficients) (keptOf (length coefficients) (length room) from)
+roomWith coefficients room from = sets room from (map narrowI32 (take 8192 coefficients))

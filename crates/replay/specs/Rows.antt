@@ -1,8 +1,10 @@
--- Numbers as text, and the counts of a replay.
+-- Numbers and rows as text, and the counts of a replay.
 use Prim.Native.Nat.{ℕ, _+_, _-_, _*_, _%_, _^_, _≤_, min, max}
-use mathlib.Core.Bool.{Bool, true, false, cond}
+use mathlib.Core.Bool.{Bool, true, false, cond, _||_}
+use mathlib.Core.List.{List, [], _∷_}
 use lib.Dec.{ltb, eqb}
 use lib.IntN.{ℤ, pos, negsuc, _-ℤ_}
+use lib.ListN.{drop, set}
 use Rattle.replay.specs.declared.Number.{Number}
 use Rattle.replay.specs.declared.Cursor.{Cursor}
 use Rattle.replay.specs.declared.Tally.{Tally}
@@ -37,6 +39,40 @@ start = record { at = 0; column = 0; number = noNumber; ended = false }
 
 abbrev pub moved : Cursor → ℕ → Cursor
 moved c at = record { at = at; column = c .column; number = c .number; ended = c .ended }
+
+-- A cursor, and the numbers of the row that it is in.
+pub record Read : Type 0 where
+  pub cursor : Cursor
+  pub row : List ℤ
+
+abbrev pub read : Cursor → List ℤ → Read
+read c row = record { cursor = c; row = row }
+
+-- A number ends with a comma, 44, or a line feed, 10.
+unfoldable pub endsNumber : ℕ → Bool
+endsNumber b = eqb b 44 || eqb b 10
+
+-- With one more byte. A number's end sets its place in the row, where there is one, and counts the column, modulo 2^64. With the line feed the row has ended.
+unfoldable pub withByte : Read → ℕ → Read
+withByte s b =
+    let c : Cursor = s .cursor in
+    cond (endsNumber b)
+    (read (record { at = c .at + 1; column = (c .column + 1) % 2 ^ 64; number = noNumber; ended = eqb b 10 })
+    (set (s .row) (c .column) (signedValue (c .number))))
+    (read (record { at = c .at + 1; column = c .column; number = digitAdded (c .number) b; ended = false }) (s .row))
+
+-- With the bytes up to the first line feed, or with all where there is none.
+unfoldable pub withBytes : Read → List ℕ → Read
+withBytes s [] = s
+withBytes s (b ∷ bs) = cond (eqb b 10) (withByte s b) (withBytes (withByte s b) bs)
+
+-- A cursor that reads on, in a new row where the one before has ended.
+abbrev pub begun : Cursor → Cursor
+begun c = record { at = c .at; column = cond (c .ended) 0 (c .column); number = c .number; ended = false }
+
+-- What reading on from a cursor in a piece of bytes leaves, of a row that held these numbers.
+unfoldable pub rowRead : Cursor → List ℕ → List ℤ → Read
+rowRead c bytes row = withBytes (read (begun c) row) (drop (c .at) bytes)
 
 -- A cursor that has read on in a piece of n bytes: not past the end and, unless it stood there, at least one byte.
 pub record Advanced (before : Cursor) (n : ℕ) (after : Cursor) : Type 0 where

@@ -18,16 +18,9 @@ fn keep(coefficients: &[i64], room: &mut [i32], from: usize) -> usize
     ensures { λ r. ⌜ r ≡ keptOf (length (now (coefficients .entry))) (length (now (room .entry))) from ⌝ }
     ensures { λ r. ⌜ now (room .exit) ≡ roomWith (now (coefficients .entry)) (now (room .entry)) from ⌝ }
 {
+    let most = arith::least(THIRD, coefficients.len());
     let start = arith::least(from, room.len());
-    let third = arith::least(THIRD, room.len() - start);
-    let n = arith::least(coefficients.len(), third);
-    let mut i: usize = 0;
-    while i < n {
-        let c = arith::wrap_i32(coefficients[i]);
-        room[start + i] = c;
-        i += 1;
-    }
-    n
+    recording::keep_row(&coefficients[..most], room, from) - start
 }
 
 // The bank in the third from a place on.

@@ -1,13 +1,14 @@
-// What the replay programs read and count: the oracle's answers, as rows of decimal numbers parted by commas.
+// What the replay programs read and count: the oracle's answers, as rows of decimal numbers separated by commas.
 //
-// rows.rt has the numbers of a row, answer.rt the refusals and banks.rt the banks that they stand for.
+// rows.rt has the numbers of a row; bits.rt the floats, answer.rt the refusals and banks.rt the banks that they stand for.
 pub mod answer;
 pub mod banks;
+pub mod bits;
 pub mod rows;
 
 ghost use mathlib.Core.Path.{_≡_};
-ghost use lib.ListN.{length};
-ghost use Rattle.replay.specs.Rows.{noNumber, digitAdded, signedValue, start, moved, Advanced, noneCounted, oneCounted};
+ghost use lib.ListN.{length, set};
+ghost use Rattle.replay.specs.Rows.{noNumber, digitAdded, signedValue, start, moved, endsNumber, read, rowRead, Advanced, noneCounted, oneCounted};
 
 // A number while its digits come in.
 pub struct Number {
@@ -31,6 +32,12 @@ pub struct Tally {
     pub rows: u64,
     pub wrong: u64,
     pub first: u64,
+}
+
+fn ends_number(b: u8) -> bool
+    ensures { λ r. ⌜ r ≡ endsNumber b ⌝ }
+{
+    b == b',' || b == b'\n'
 }
 
 impl Number {
@@ -86,7 +93,9 @@ impl Number {
     }
 
     // Stores the value where the row has a place for it.
-    fn put(self, row: &mut [i64], column: usize) {
+    fn put(self, row: &mut [i64], column: usize)
+        ensures { λ _. ⌜ now (row .exit) ≡ set (now (row .entry)) column (signedValue self) ⌝ }
+    {
         if column < row.len() {
             let v = self.value();
             row[column] = v;
@@ -121,7 +130,8 @@ impl Cursor {
 
     // Reads on to the end of a row or of the piece. Numbers for which the row has no place are passed over.
     pub fn row(self, bytes: &[u8], row: &mut [i64]) -> Cursor
-        ensures { λ r. ⌜ Advanced self (length (now (bytes .entry))) r ⌝ }
+        ensures numbers { λ r. ⌜ read r (now (row .exit)) ≡ rowRead self (now (bytes .entry)) (now (row .entry)) ⌝ }
+        ensures onward { λ r. ⌜ Advanced self (length (now (bytes .entry))) r ⌝ }
     {
         let mut at = self.at;
         let mut number = self.number;
@@ -129,7 +139,7 @@ impl Cursor {
         while at < bytes.len() {
             let b = bytes[at];
             at += 1;
-            if b == b',' || b == b'\n' {
+            if ends_number(b) {
                 number.put(row, column);
                 column = std::num::wrapping_add_usize(column, 1);
                 number = Number::new();

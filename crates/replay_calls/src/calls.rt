@@ -1,12 +1,12 @@
 // What the rows do: some are kept for the calls to come, the others make a call on what is in force and have its answer (oracle/README.md, 'Rows of calls').
 use crate::answer;
 use crate::sheet::Sheet;
-use crate::state;
-use fixed::Frontend;
+use crate::states;
 use fixed::Processed;
 use places::ReadSheet;
 use replay::Tally;
 use replay::rows;
+use state::Frontend;
 
 // What the rows so far leave: how many answers were compared, and what is in force.
 pub(crate) struct Replay {
@@ -26,7 +26,7 @@ fn keep_values(numbers: &[i64], values: &mut [i16]) -> usize {
     let n = arith::least(numbers.len(), values.len());
     let mut i: usize = 0;
     while i < n {
-        let v = arith::sat16(numbers[i]);
+        let v = arith::narrow_i16(numbers[i]);
         values[i] = v;
         i += 1;
     }
@@ -94,7 +94,7 @@ impl Replay {
         Replay {
             tally: Tally::new(),
             sheet: Sheet::empty(),
-            state: state::of_numbers(&[]),
+            state: states::of_numbers(&[]),
             values: 0,
             places: 0,
         }
@@ -149,7 +149,8 @@ impl Replay {
         let params = sheet.params;
         let banks = sheet.banks;
         let given = self.state;
-        let block = given.process(
+        let block = fixed::process(
+            given,
             params,
             banks.h(room),
             banks.g(room),
@@ -200,7 +201,7 @@ impl Replay {
             return self.is_offset(row, room);
         }
         if kind == 9 {
-            return state::is(self.state, rows::rest(row, 1));
+            return states::is(self.state, rows::rest(row, 1));
         }
         if kind == 11 {
             return self.is_output(row, out);
@@ -257,7 +258,7 @@ impl Replay {
             return next;
         }
         if kind == 6 {
-            next.state = state::of_numbers(rows::rest(row, 1));
+            next.state = states::of_numbers(rows::rest(row, 1));
             return next;
         }
         if kind == 7 {

@@ -5,7 +5,7 @@
 mod answer;
 mod calls;
 mod sheet;
-mod state;
+mod states;
 
 use calls::Replay;
 use libc::STDOUT_FILENO;

@@ -4,13 +4,13 @@ use design::DesignRegisters;
 use design::DesignVerdict;
 use design::SheetError;
 use design::SheetVerdict;
-use input::Sample;
 use params::Params;
 use replay::answer;
+use replay::bits;
 use replay::rows;
 
 pub(crate) fn float_of(number: i64) -> f64 {
-    floats::f64_from_bits(rows::u64_of(number))
+    bits::f64_from_bits(rows::u64_of(number))
 }
 
 fn wide(v: i16) -> i64 {
@@ -19,7 +19,7 @@ fn wide(v: i16) -> i64 {
 
 // Whether a number stands for this float.
 fn is_float(number: i64, x: f64) -> bool {
-    floats::f64_to_bits(float_of(number)) == floats::f64_to_bits(x)
+    bits::f64_to_bits(float_of(number)) == bits::f64_to_bits(x)
 }
 
 // Whether these are the numbers of a refusal that carries a float.
@@ -77,8 +77,16 @@ fn are_fields(p: Params, numbers: &[i64]) -> bool {
         && rows::at(numbers, 17) == p.block_log2 as i64
 }
 
-pub(crate) fn is_sample(s: Sample, numbers: &[i64]) -> bool {
-    numbers.len() == 2 && rows::at(numbers, 0) == wide(s.i) && rows::at(numbers, 1) == wide(s.q)
+// Whether a number is what the component with this bit pattern becomes.
+fn is_component(pattern: i64, number: i64) -> bool {
+    number == wide(input::component(bits::f32_from_bits(arith::wrap_u32(pattern))))
+}
+
+// Whether these are the components of a float sample, and what they become.
+pub(crate) fn is_sample(numbers: &[i64]) -> bool {
+    numbers.len() == 4
+        && is_component(rows::at(numbers, 0), rows::at(numbers, 2))
+        && is_component(rows::at(numbers, 1), rows::at(numbers, 3))
 }
 
 pub(crate) fn is_design(v: DesignVerdict, numbers: &[i64]) -> bool {

@@ -2,7 +2,6 @@
 use crate::answers;
 use design::Design;
 use design::Gains;
-use input::Complex32;
 use replay::Tally;
 use replay::banks::Banks;
 use replay::rows;
@@ -12,13 +11,6 @@ pub(crate) struct Replay {
     pub(crate) tally: Tally,
     banks: Banks,
     gains: Gains,
-}
-
-fn sample_of(numbers: &[i64]) -> Complex32 {
-    Complex32 {
-        re: floats::f32_from_bits(arith::wrap_u32(rows::at(numbers, 0))),
-        im: floats::f32_from_bits(arith::wrap_u32(rows::at(numbers, 1))),
-    }
 }
 
 fn design_of(numbers: &[i64]) -> Design {
@@ -36,9 +28,9 @@ fn design_of(numbers: &[i64]) -> Design {
 
 fn gains_of(numbers: &[i64]) -> Gains {
     Gains {
-        kp: arith::sat16(rows::at(numbers, 0)),
+        kp: arith::narrow_i16(rows::at(numbers, 0)),
         kp_shift: rows::u8_of(rows::at(numbers, 1)),
-        ki: arith::sat16(rows::at(numbers, 2)),
+        ki: arith::narrow_i16(rows::at(numbers, 2)),
         ki_shift: rows::u8_of(rows::at(numbers, 3)),
         q_shift: rows::u8_of(rows::at(numbers, 4)),
     }
@@ -73,8 +65,7 @@ impl Replay {
     fn is_answered(self, row: &[i64], room: &[i32]) -> bool {
         let kind = rows::at(row, 0);
         if kind == 0 {
-            let sample = input::input_sample(sample_of(rows::rest(row, 1)));
-            return answers::is_sample(sample, rows::rest(row, 3));
+            return answers::is_sample(rows::rest(row, 1));
         }
         if kind == 1 {
             let verdict = design_of(rows::rest(row, 1)).registers();

@@ -9,16 +9,18 @@ struct Progress {
     tally: Tally,
 }
 
+// The wheel that the mixer reads, at a step.
+fn entry(wheel: &[i16; 1024], step: u32) -> i64 {
+    wheel[step as usize % 1024] as i64
+}
+
 // What the function of that number gives. The numbers are the oracle's (oracle/driver/src/leaves.rs).
-fn answer(function: i64, a: i64, b: i64, c: i64) -> i64 {
+fn answer(wheel: &[i16; 1024], function: i64, a: i64, b: i64, c: i64) -> i64 {
     if function == 0 {
         return arith::round_shift(a, arith::wrap_u32(b));
     }
     if function == 1 {
         return arith::shift_right(a, arith::wrap_u32(b));
-    }
-    if function == 2 {
-        return arith::product(arith::wrap_i32(a), arith::wrap_i32(b));
     }
     if function == 3 {
         return arith::clamp(a, b, c);
@@ -32,24 +34,24 @@ fn answer(function: i64, a: i64, b: i64, c: i64) -> i64 {
     if function == 6 {
         return arith::wrap_i32(a) as i64;
     }
-    tables::cos(arith::wrap_u32(a) as usize) as i64
+    entry(wheel, arith::wrap_u32(a))
 }
 
-fn agrees(row: &[i64; 5], columns: usize) -> bool {
+fn agrees(wheel: &[i16; 1024], row: &[i64; 5], columns: usize) -> bool {
     if columns != 5 {
         return false;
     }
-    answer(row[0], row[1], row[2], row[3]) == row[4]
+    answer(wheel, row[0], row[1], row[2], row[3]) == row[4]
 }
 
 // The rows of one piece of the input.
-fn piece(before: Progress, bytes: &[u8], row: &mut [i64; 5]) -> Progress {
+fn piece(before: Progress, wheel: &[i16; 1024], bytes: &[u8], row: &mut [i64; 5]) -> Progress {
     let mut cursor = before.cursor.in_next_piece();
     let mut tally = before.tally;
     while cursor.at < bytes.len() {
         cursor = cursor.row(bytes, row);
         if cursor.ended {
-            tally = tally.counted(agrees(row, cursor.column));
+            tally = tally.counted(agrees(wheel, row, cursor.column));
         }
     }
     Progress { cursor, tally }
@@ -68,6 +70,7 @@ fn report(t: Tally) {
 }
 
 fn main() {
+    let wheel = tables::cos_table();
     let mut bytes = io::large_buffer();
     let mut row = [0i64; 5];
     let mut progress = Progress {
@@ -79,7 +82,7 @@ fn main() {
     while 0 < turns && 0 < n {
         let got = libc::read(libc::STDIN_FILENO, &mut bytes);
         n = io::count(got, &bytes);
-        progress = piece(progress, &bytes[..n], &mut row);
+        progress = piece(progress, &wheel, &bytes[..n], &mut row);
         turns -= 1;
     }
     report(progress.tally);

@@ -1,6 +1,6 @@
 // Standard input, line by line through one buffer. A line is read where it stands; only one that the buffer's end cuts is moved to its front.
 use crate::stop::Stop;
-use text::LineEnd;
+use recording::Next;
 
 // What the buffer holds and is not used yet, from `at` to before `end`, and whether the input has ended behind it.
 pub(crate) struct Input {
@@ -9,16 +9,12 @@ pub(crate) struct Input {
     over: bool,
 }
 
-// What comes next in the input.
-enum Next {
-    // A line, which stands in the buffer from one place to before another, and what is behind it.
+// The next line of the input.
+enum Found {
+    // It stands in the buffer from one place to before another, and what is behind it follows.
     Line { from: usize, to: usize, rest: Input },
-    // A line that is too long, or that the input's end cuts.
-    WrongForm,
-    // Nothing.
-    End,
-    // The system failed to read it.
-    Failed,
+    // There is none.
+    Nothing(Stop),
 }
 
 // What one more read answers.
@@ -80,44 +76,38 @@ impl Input {
         })
     }
 
-    // What follows the bytes that are not used yet, where these are no whole line.
-    fn next(self, bytes: &mut [u8]) -> Next {
+    // The next line, which has this number. More is read until it is there, or nothing can be.
+    fn next(self, line: u64, bytes: &mut [u8]) -> Found {
         let mut input = self;
         let mut turns = READS;
         while 0 < turns {
-            match text::line_end(part(bytes, input.at, input.end)) {
-                LineEnd::After(n) => {
+            match recording::next_line(part(bytes, input.at, input.end), input.over, line) {
+                Next::Line(n) => {
                     let to = std::num::wrapping_add_usize(input.at, n);
                     let rest = Input {
                         at: std::num::wrapping_add_usize(to, 1),
                         end: input.end,
                         over: input.over,
                     };
-                    return Next::Line {
+                    return Found::Line {
                         from: input.at,
                         to,
                         rest,
                     };
                 }
-                LineEnd::TooLong => return Next::WrongForm,
-                LineEnd::Open => {
-                    if input.over {
-                        if input.at == input.end {
-                            return Next::End;
-                        }
-                        return Next::WrongForm;
-                    }
-                }
+                Next::End => return Found::Nothing(Stop::End),
+                Next::Refused(number) => return Found::Nothing(Stop::Refused { number, line }),
+                Next::More => {}
             }
             match input.more(bytes) {
                 More::Bytes(i) => {
                     input = i;
                 }
-                More::Failed => return Next::Failed,
+                More::Failed => return Found::Nothing(Stop::Failed),
             }
             turns -= 1;
         }
-        Next::WrongForm
+        Found::Nothing(Stop::Refused { number: 18, line })
     }
 
     // Takes the next line, which has this number, as fields of these types, and puts their values at the start of `values`.
@@ -128,8 +118,8 @@ impl Input {
         values: &mut [i64],
         bytes: &mut [u8],
     ) -> Taken {
-        match self.next(bytes) {
-            Next::Line { from, to, rest } => {
+        match self.next(line, bytes) {
+            Found::Line { from, to, rest } => {
                 let number = text::read_line(part(bytes, from, to), kinds, values);
                 if number == 0 {
                     return Taken {
@@ -142,18 +132,7 @@ impl Input {
                     stop: Stop::Refused { number, line },
                 }
             }
-            Next::WrongForm => Taken {
-                rest: self,
-                stop: Stop::Refused { number: 18, line },
-            },
-            Next::End => Taken {
-                rest: self,
-                stop: Stop::End,
-            },
-            Next::Failed => Taken {
-                rest: self,
-                stop: Stop::Failed,
-            },
+            Found::Nothing(stop) => Taken { rest: self, stop },
         }
     }
 }

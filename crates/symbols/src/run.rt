@@ -3,9 +3,9 @@ use crate::input::Input;
 use crate::output::Output;
 use crate::sheet::Head;
 use crate::stop::Stop;
-use fixed::Frontend;
 use kinds::I16;
 use params::Params;
+use state::Frontend;
 
 const PAIR: [u8; 2] = [I16, I16];
 
@@ -28,14 +28,6 @@ struct Progress {
     stop: Stop,
 }
 
-// Puts a pair into its places. Both numbers are within 16 bits, so that nothing is clamped.
-fn keep_pair(pair: &[i64; 2], values: &mut [i16], n: usize) {
-    if n < values.len() / 2 {
-        values[2 * n] = arith::sat16(pair[0]);
-        values[2 * n + 1] = arith::sat16(pair[1]);
-    }
-}
-
 // Takes pairs, from this line on, until there is no place for more.
 fn block_of(before: Input, first: u64, values: &mut [i16], bytes: &mut [u8]) -> Block {
     let mut pair = [0i64; 2];
@@ -53,7 +45,7 @@ fn block_of(before: Input, first: u64, values: &mut [i16], bytes: &mut [u8]) -> 
                 stop,
             };
         }
-        keep_pair(&pair, values, n);
+        recording::keep_pair(pair[0], pair[1], values, n);
         n += 1;
     }
     Block {
@@ -84,7 +76,7 @@ impl Progress {
         let block = block_of(self.rest, self.line, values, bytes);
         let used = arith::least(block.used, values.len());
         let given = self.state;
-        let done = given.process(params, h, g, k, &values[0..used], places);
+        let done = fixed::process(given, params, h, g, k, &values[0..used], places);
         let state = done.state;
         let verdict = done.verdict;
         let number = verdict.number();

@@ -16,19 +16,6 @@ pub(crate) struct Head {
     pub(crate) stop: Stop,
 }
 
-// Puts a row of coefficients into a bank from a place on, and says where the next begins.
-fn keep_row(values: &[i64], room: &mut [i32], from: usize) -> usize {
-    let start = arith::least(from, room.len());
-    let n = arith::least(values.len(), room.len() - start);
-    let mut i: usize = 0;
-    while i < n {
-        let c = arith::wrap_i32(values[i]);
-        room[start + i] = c;
-        i += 1;
-    }
-    start + n
-}
-
 impl Head {
     // Line 1. A row's length rests on the taps, so these are judged at once.
     pub(crate) fn of_line(bytes: &mut [u8]) -> Head {
@@ -36,8 +23,7 @@ impl Head {
         let types = places::sheet_kinds();
         let taken = Input::new().take(1, &types, &mut values, bytes);
         let rest = taken.rest;
-        let found = taken.stop;
-        let stop = found.before(1);
+        let stop = taken.stop;
         let params = places::no_sheet();
         if !stop.is_no() {
             return Head { params, rest, stop };
@@ -89,9 +75,8 @@ impl Head {
             let line = std::num::wrapping_add_u64(first, row);
             let taken = rest.take(line, &kinds[0..taps], &mut values, bytes);
             rest = taken.rest;
-            let found = taken.stop;
-            stop = found.before(line);
-            from = keep_row(&values[0..taps], room, from);
+            stop = taken.stop;
+            from = recording::keep_row(&values[0..taps], room, from);
             row += 1;
         }
         Head { params, rest, stop }

@@ -17,12 +17,4 @@ impl Stop {
             _ => false,
         }
     }
-
-    // The same, before the lines are all there that every input has.
-    pub(crate) fn before(self, line: u64) -> Stop {
-        match self {
-            Stop::End => Stop::Refused { number: 20, line },
-            _ => self,
-        }
-    }
 }

@@ -2,7 +2,7 @@
 //
 // The sine is the cosine three quarters of a turn on, at k + 768.
 ghost use mathlib.Core.Path.{_≡_};
-ghost use Rattle.tables.specs.Wheel.{wheel, wheelTable};
+ghost use Rattle.tables.specs.Wheel.{wheelTable};
 
 // round(32767 · cos(2πk / 1024)) at k = 0 .. 1023.
 const COS_TABLE: [i16; 1024] = [
@@ -1037,11 +1037,4 @@ pub fn cos_table() -> [i16; 1024]
     ensures { λ r. ⌜ r ≡ wheelTable ⌝ }
 {
     COS_TABLE
-}
-
-// The wheel at step k; indices go round modulo 1,024.
-pub fn cos(k: usize) -> i16
-    ensures { λ r. ⌜ r ≡ wheel k ⌝ }
-{
-    COS_TABLE[k % 1024]
 }

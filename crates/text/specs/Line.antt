@@ -31,7 +31,7 @@ Settled = (a b : List ℕ) → (lineEndOf a ≡ Open → ⊥) → lineEndOf (a +
 
 -- ---- its fields
 
--- A line parted at each comma, 44: always one field more than it has commas.
+-- A line, separated at each comma, 44: always one field more than it has commas.
 abbrev pub onto : ℕ → List (List ℕ) → List (List ℕ)
 onto b [] = (b ∷ []) ∷ []
 onto b (f ∷ fs) = (b ∷ f) ∷ fs

@@ -1,4 +1,4 @@
-// A line: where it ends, and the fields that commas part it into.
+// A line: where it ends, and its fields, which are separated by commas.
 ghost use mathlib.Core.Path.{_≡_};
 ghost use Prim.Native.Nat.{_≤_, _+_, max};
 ghost use lib.ListN.{length, drop, set};

@@ -8,21 +8,22 @@ use lib.Dec.{eqb}
 use lib.ListN.{length, take, drop, length-append}
 use lib.Seq.{take-at}
 use Rattle.params.specs.Judge.{Sheet, firstOf}
-use Rattle.fixed.specs.declared.Pair.{Pair}
-use Rattle.fixed.specs.declared.Frontend.{Frontend}
-use Rattle.fixed.specs.declared.Symbol.{Symbol}
+use Rattle.state.specs.declared.Pair.{Pair}
+use Rattle.state.specs.declared.Frontend.{Frontend}
+use Rattle.symbol.specs.declared.Symbol.{Symbol}
 use Rattle.fixed.specs.Sample.{after, emitted}
-use Rattle.fixed.specs.Block.{blockFaults, pairsOf, flattened, accepted, blockOf}
+use Rattle.state.specs.Check.{blockFaults}
+use Rattle.fixed.specs.Block.{pairsOf, flattened, accepted, blockOf}
 use Rattle.timing.specs.Lists.{Call, answer, stateAfter, takenBy, taken, written, counted}
 use Rattle.fixed.proofs.Runs.{after-append, emitted-append, flattened-append, length-flattened}
 
 module _ (s : Sheet) where
   abbrev number : Frontend → Call → ℕ
-  number f c = firstOf (blockFaults s f (c .values) (c .out)) .number
+  number f c = firstOf (blockFaults s f (length (c .values)) (length (c .out))) .number
 
   -- an answer, once its refusal's number is known to be 0 or not
   answer-is : (f : Frontend) (c : Call) (b : Bool) → eqb (number f c) 0 ≡ b
-      → answer s f c ≡ cond b (accepted s f (c .values) (c .out)) (record { refused = firstOf (blockFaults s f (c .values) (c .out)); state = f; count = 0; output = c .out })
+      → answer s f c ≡ cond b (accepted s f (c .values) (c .out)) (record { refused = firstOf (blockFaults s f (length (c .values)) (length (c .out))); state = f; count = 0; output = c .out })
   unfolding blockOf
   answer-is f c b e = rw e
 

@@ -9,9 +9,9 @@ use lib.Seq.{take-suc}
 use lib.IntN.{pos}
 use Rattle.params.specs.declared.Params.{Params}
 use Rattle.params.proofs.Accepted.{GoodPeriods, GoodFields}
-use Rattle.fixed.specs.declared.Pending.{Pending}
-use Rattle.fixed.specs.declared.Symbol.{Symbol}
-use Rattle.fixed.proofs.Loops.{Loop, moved, Within, end-whole, moved-within}
+use Rattle.registers.specs.declared.Pending.{Pending}
+use Rattle.symbol.specs.declared.Symbol.{Symbol}
+use Rattle.registers.proofs.Loops.{Loop, moved, Within, end-whole, moved-within}
 
 -- ---- what a run's symbols leave: their periods' sum, and their errors
 

@@ -12,14 +12,15 @@ use borrow.Author.Tests.{eqb-true}
 use Rattle.params.specs.Refusal.{Refusal, refusal}
 use Rattle.params.specs.Judge.{Sheet, unless, firstOf, faults}
 use Rattle.params.proofs.Accepted.{Accepted, judged-none, no-faults}
-use Rattle.fixed.specs.declared.Frontend.{Frontend}
-use Rattle.fixed.specs.declared.Symbol.{Symbol}
-use Rattle.fixed.specs.Start.{startOf}
-use Rattle.fixed.specs.Loop.{loopDelay}
-use Rattle.fixed.specs.Block.{goodState, stateFaults, sizeFaults, blockFaults, accepted, blockOf}
+use Rattle.state.specs.declared.Frontend.{Frontend}
+use Rattle.symbol.specs.declared.Symbol.{Symbol}
+use Rattle.state.specs.Start.{startOf}
+use Rattle.registers.specs.Step.{loopDelay}
+use Rattle.state.specs.Check.{goodState, stateFaults, sizeFaults, blockFaults}
+use Rattle.fixed.specs.Block.{accepted, blockOf}
 use Rattle.timing.specs.Lists.{Call, answer, endState}
 use Rattle.timing.specs.Timing.{StatesGoOn}
-use Rattle.fixed.proofs.States.{Going, good}
+use Rattle.state.proofs.Going.{Going, good}
 use Rattle.timing.proofs.Invariant.{Inv, loopAt-within}
 use Rattle.timing.proofs.Timing.{ends-inv}
 
@@ -36,28 +37,32 @@ going s a f S i = record {
 }
 
 -- the number of an answer is that of its first fault
-numbered : (s : Sheet) (f : Frontend) (c : Call) → answer s f c .refused .number ≡ firstOf (blockFaults s f (c .values) (c .out)) .number
+numbered : (s : Sheet) (f : Frontend) (c : Call) → answer s f c .refused .number ≡ firstOf (blockFaults s f (length (c .values)) (length (c .out))) .number
 unfolding blockOf accepted
 numbered s f c = go (eqb n 0) refl
   where
     n : ℕ
-    n = firstOf (blockFaults s f (c .values) (c .out)) .number
+    n = firstOf (blockFaults s f (length (c .values)) (length (c .out))) .number
 
     go : (b : Bool) → eqb n 0 ≡ b → answer s f c .refused .number ≡ n
     go true e = rw e (sym (eqb-true n 0 e))
     go false e = rw e
 
+-- no refusal, or one of 10 to 12
+abbrev Own : ℕ → Type 0
+Own n = (n ≡ 0) ⊎ ((10 ≤ n) × (n ≤ 12))
+
 -- faults of which only 10, 11 and 12 are left
 own : (l : List Refusal) → l ≡ [] → (f : Frontend) (values places : ℕ)
-    → let r = firstOf (l ++ sizeFaults f values places) in (r .number ≡ 0) ⊎ (10 ≤ r .number)
+    → let r = firstOf (l ++ sizeFaults f values places) in Own (r .number)
 unfolding sizeFaults flatten
 own l e f values places =
     rw e (by (eqb (values % 2) 0) (leb (20 * (values / 2)) places) (leb (f .samples + values / 2) 9223372036854775807))
   where
-    by : (x y z : Bool) → let r = firstOf (unless x (refusal 10 []) ++ (unless y (refusal 11 []) ++ (unless z (refusal 12 []) ++ []))) in (r .number ≡ 0) ⊎ (10 ≤ r .number)
-    by false y z = inr (omega arith)
-    by true false z = inr (omega arith)
-    by true true false = inr (omega arith)
+    by : (x y z : Bool) → let r = firstOf (unless x (refusal 10 []) ++ (unless y (refusal 11 []) ++ (unless z (refusal 12 []) ++ []))) in Own (r .number)
+    by false y z = inr (omega arith, omega arith)
+    by true false z = inr (omega arith, omega arith)
+    by true true false = inr (omega arith, omega arith)
     by true true true = inl refl
 
 pub states-go-on : StatesGoOn
@@ -67,5 +72,5 @@ states-go-on s ok cs c =
     let f : Frontend = endState s cs in
     let g = good (s .params) f (going s (no-faults s none) f _ (ends-inv s ok cs)) in
     let e : stateFaults s f ≡ [] = ap (λ (l : List Refusal). l ++ unless (goodState (s .params) f) (refusal 9 [])) none ∙ ap (λ (b : Bool). unless b (refusal 9 [])) g in
-    subst (λ (n : ℕ). (n ≡ 0) ⊎ (10 ≤ n)) (sym (numbered s f c))
+    subst Own (sym (numbered s f c))
     (own (stateFaults s f) e f (length (c .values)) (length (c .out)))

@@ -15,17 +15,18 @@ use borrow.Author.Tests.{ltb-true, ltb-false, eqb-true, eqb-false}
 use Rattle.params.specs.declared.Params.{Params}
 use Rattle.params.specs.Judge.{Sheet}
 use Rattle.params.proofs.Accepted.{Accepted}
-use Rattle.fixed.specs.declared.Pair.{Pair}
-use Rattle.fixed.specs.declared.Pending.{Pending}
-use Rattle.fixed.specs.declared.Registers.{Registers}
-use Rattle.fixed.specs.declared.Frontend.{Frontend}
-use Rattle.fixed.specs.declared.Symbol.{Symbol}
-use Rattle.fixed.specs.Start.{noPending, fresh}
-use Rattle.fixed.specs.Loop.{loopDelay}
-use Rattle.fixed.specs.Symbol.{due, symbolFrom, symbolOf}
-use Rattle.fixed.specs.Sample.{one, joined, withSymbol, withoutSymbol, falls, next, madeBy, after, emitted}
-use Rattle.fixed.proofs.States.{time, minus-nat, head-below, due-time, due-symbols}
-use Rattle.fixed.proofs.Loops.{Loop, loopOf, corrected-moves, Within}
+use Rattle.state.specs.declared.Pair.{Pair}
+use Rattle.registers.specs.declared.Pending.{Pending}
+use Rattle.registers.specs.declared.Registers.{Registers}
+use Rattle.state.specs.declared.Frontend.{Frontend}
+use Rattle.symbol.specs.declared.Symbol.{Symbol}
+use Rattle.state.specs.Start.{noPending, fresh}
+use Rattle.registers.specs.Step.{loopDelay, one, found, left}
+use Rattle.fixed.specs.Sample.{due, symbolOf, joined, withSymbol, withoutSymbol, falls, next, madeBy, after, emitted}
+use Rattle.symbol.specs.Make.{symbolFrom}
+use Rattle.state.proofs.Going.{time, minus-nat}
+use Rattle.fixed.proofs.States.{head-below, due-time, due-symbols}
+use Rattle.registers.proofs.Loops.{Loop, loopOf, corrected-moves, Within}
 use Rattle.timing.proofs.Errors.{total, total-append, errors, errorsOf, errors-append, length-errors, movedBy, movedBy-snoc, freshLoop, loop-within}
 
 module _ (s : Sheet) where
@@ -104,9 +105,9 @@ module _ (s : Sheet) where
 
     -- ---- a sample without a symbol
 
-    silent-inv : (f : Frontend) (S : List Symbol) → 16777216 ≤ time f → Inv f S → Inv (withoutSymbol f) S
+    without-symbol-inv : (f : Frontend) (S : List Symbol) → 16777216 ≤ time f → Inv f S → Inv (withoutSymbol f) S
     unfolding withoutSymbol
-    silent-inv f S h i =
+    without-symbol-inv f S h i =
         let t : f .registers .«t_acc» -ℤ one ≡ pos (time f - 16777216) = rw (i .whole) (minus-nat (time f) 16777216 h) in
         let n : natAbs (f .registers .«t_acc» -ℤ one) ≡ time f - 16777216 = ap natAbs t in
         record {
@@ -127,7 +128,7 @@ module _ (s : Sheet) where
 
     -- the loop as a symbol finds it: after the errors of all but the newest before it, one fewer than the delay
     due-loop : (f : Frontend) (S : List Symbol) → Inv f S → loopOf (due (s .params) f) ≡ loopAt S (loopDelay - 1)
-    unfolding due
+    unfolding due found
     due-loop f S i = go (eqb (f .waiting) loopDelay) refl
       where
         p : Params
@@ -215,9 +216,9 @@ module _ (s : Sheet) where
         ap (λ (z : ℤ). z +ℤ pos (due (s .params) f .period) -ℤ one) (due-time (s .params) f ∙ i .whole)
         ∙ minus-nat (time f + due (s .params) f .period) 16777216 (omega (arith, a .periods))
 
-    sounded-inv : (f : Frontend) (S : List Symbol) → Inv f S → time f < 16777216 → Inv (withSymbol s f) (S ++ (symbolOf s f ∷ []))
-    unfolding withSymbol errors
-    sounded-inv f S i h =
+    with-symbol-inv : (f : Frontend) (S : List Symbol) → Inv f S → time f < 16777216 → Inv (withSymbol s f) (S ++ (symbolOf s f ∷ []))
+    unfolding withSymbol left errors
+    with-symbol-inv f S i h =
         let y : Symbol = symbolOf s f in
         let r : Registers = due (s .params) f in
         let len : length (S ++ (y ∷ [])) ≡ length S + 1 = length-append S (y ∷ []) in
@@ -259,10 +260,10 @@ module _ (s : Sheet) where
         go : (b : Bool) → falls f ≡ b → Inv (next s f x) (S ++ madeBy s f x)
         go true e =
             rw (next-is f x true e, made-is f x true e)
-            (sounded-inv (joined s f x) S (joined-inv f S x i) (ltb-true (time f) 16777216 (sym (falls-is f S i) ∙ e)))
+            (with-symbol-inv (joined s f x) S (joined-inv f S x i) (ltb-true (time f) 16777216 (sym (falls-is f S i) ∙ e)))
         go false e =
             rw (next-is f x false e, made-is f x false e, append-nil S)
-            (silent-inv (joined s f x) S (ltb-false (time f) 16777216 (sym (falls-is f S i) ∙ e)) (joined-inv f S x i))
+            (without-symbol-inv (joined s f x) S (ltb-false (time f) 16777216 (sym (falls-is f S i) ∙ e)) (joined-inv f S x i))
 
     next-placed : (f : Frontend) (S : List Symbol) (x : Pair) → Inv f S → Each S (madeBy s f x)
     unfolding joined

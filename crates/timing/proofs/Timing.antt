@@ -15,23 +15,23 @@ use lib.Signed.{_≤ℤ_}
 use Rattle.params.specs.Refusal.{Refusal, nothing}
 use Rattle.params.specs.Judge.{Sheet}
 use Rattle.params.proofs.Accepted.{Accepted, judged-none, no-faults}
-use Rattle.fixed.specs.declared.Pair.{Pair}
-use Rattle.fixed.specs.declared.Frontend.{Frontend}
-use Rattle.fixed.specs.declared.Output.{Output}
-use Rattle.fixed.specs.declared.Symbol.{Symbol}
-use Rattle.fixed.specs.Start.{noPair, atRest, fresh, startOf}
+use Rattle.state.specs.declared.Pair.{Pair}
+use Rattle.state.specs.declared.Frontend.{Frontend}
+use Rattle.symbol.specs.declared.Output.{Output}
+use Rattle.symbol.specs.declared.Symbol.{Symbol}
+use Rattle.state.specs.Start.{noPair, atRest, fresh, startOf}
 use Rattle.fixed.specs.Filter.{sumTo}
-use Rattle.fixed.specs.Loop.{loopDelay}
-use Rattle.fixed.specs.Symbol.{placesOf}
+use Rattle.registers.specs.Step.{loopDelay}
+use Rattle.symbol.specs.Places.{placesOf}
 use Rattle.fixed.specs.Sample.{after, emitted}
 use Rattle.fixed.specs.Block.{flattened}
-use Rattle.timing.specs.Lists.{Call, first, samplesOf, endState, placesWritten, symbolCount}
+use Rattle.timing.specs.Lists.{Call, startState, samplesOf, endState, placesWritten, symbolCount}
 use Rattle.timing.specs.Timing.{placeAt, sampleAt, phaseAt, gainAt, periodAt, periodsBefore, Whole, Place, Apart, Rest, AgreeUpTo, Delayed, SameRun, TimingHolds}
 use Rattle.fixed.proofs.Runs.{emitted-append, length-flattened, place-flattened, run-samples}
 use Rattle.timing.proofs.Calls.{calls-state, calls-written, calls-counted}
-use Rattle.fixed.proofs.Loops.{Loop}
+use Rattle.registers.proofs.Loops.{Loop}
 use Rattle.timing.proofs.Errors.{total, total-append, total-suc, errors, errors-take, movedBy, freshLoop}
-use Rattle.fixed.proofs.States.{time}
+use Rattle.state.proofs.Going.{time}
 use Rattle.timing.proofs.Invariant.{loopAt, Inv, Placed, each-at, fresh-inv, loopAt-within, run-inv, run-placed}
 
 abbrev noOutput : Output
@@ -220,7 +220,7 @@ module _ (s : Sheet) (ok : startOf s .refused ≡ nothing) where
   unfolding startOf
   a = no-faults s (judged-none s ok)
 
-  begins : first s ≡ f₀ s a
+  begins : startState s ≡ f₀ s a
   unfolding startOf f₀
   begins = ap (λ (r : Refusal). cond (eqb (r .number) 0) (fresh (s .params)) (atRest 0 0)) ok
 
@@ -230,14 +230,14 @@ module _ (s : Sheet) (ok : startOf s .refused ≡ nothing) where
 
   wrote : (cs : List Call) → placesWritten s cs ≡ flattened (runOf cs)
   unfolding runOf run
-  wrote cs = calls-written s (first s) cs ∙ ap (λ (f : Frontend). flattened (emitted s f (samplesOf s cs))) begins
+  wrote cs = calls-written s (startState s) cs ∙ ap (λ (f : Frontend). flattened (emitted s f (samplesOf s cs))) begins
 
   counts : (cs : List Call) → symbolCount s cs ≡ length (runOf cs)
   unfolding runOf run
-  counts cs = calls-counted s (first s) cs ∙ ap (λ (f : Frontend). length (emitted s f (samplesOf s cs))) begins
+  counts cs = calls-counted s (startState s) cs ∙ ap (λ (f : Frontend). length (emitted s f (samplesOf s cs))) begins
 
   ends : (cs : List Call) → endState s cs ≡ after s (f₀ s a) (samplesOf s cs)
-  ends cs = calls-state s (first s) cs ∙ ap (λ (f : Frontend). after s f (samplesOf s cs)) begins
+  ends cs = calls-state s (startState s) cs ∙ ap (λ (f : Frontend). after s f (samplesOf s cs)) begins
 
   -- what holds of the state that a list hands back
   pub ends-inv : (cs : List Call) → Inv s (endState s cs) (emitted s (fresh (s .params)) (samplesOf s cs))

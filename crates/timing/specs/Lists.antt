@@ -7,9 +7,9 @@ use lib.Dec.{eqb}
 use lib.ListN.{take}
 use lib.IntN.{ℤ}
 use Rattle.params.specs.Judge.{Sheet}
-use Rattle.fixed.specs.declared.Pair.{Pair}
-use Rattle.fixed.specs.declared.Frontend.{Frontend}
-use Rattle.fixed.specs.Start.{startOf}
+use Rattle.state.specs.declared.Pair.{Pair}
+use Rattle.state.specs.declared.Frontend.{Frontend}
+use Rattle.state.specs.Start.{startOf}
 use Rattle.fixed.specs.Block.{Block, pairsOf, blockOf}
 
 -- A call's sample values and its output buffer: any of either.
@@ -46,17 +46,17 @@ counted s f (c ∷ cs) = answer s f c .count + counted s (answer s f c .state) c
 
 -- ---- of a list that begins with the state that starting gave
 
-abbrev pub first : Sheet → Frontend
-first s = startOf s .state
+abbrev pub startState : Sheet → Frontend
+startState s = startOf s .state
 
 abbrev pub endState : Sheet → List Call → Frontend
-endState s cs = stateAfter s (first s) cs
+endState s cs = stateAfter s (startState s) cs
 
 abbrev pub samplesOf : Sheet → List Call → List Pair
-samplesOf s cs = taken s (first s) cs
+samplesOf s cs = taken s (startState s) cs
 
 abbrev pub placesWritten : Sheet → List Call → List ℤ
-placesWritten s cs = written s (first s) cs
+placesWritten s cs = written s (startState s) cs
 
 abbrev pub symbolCount : Sheet → List Call → ℕ
-symbolCount s cs = counted s (first s) cs
+symbolCount s cs = counted s (startState s) cs

@@ -10,8 +10,8 @@ use lib.IntN.{ℤ, pos, _+ℤ_, _*ℤ_}
 use lib.Signed.{shrZ, _≤ℤ_}
 use Rattle.params.specs.Refusal.{nothing}
 use Rattle.params.specs.Judge.{Sheet}
-use Rattle.fixed.specs.declared.Pair.{Pair}
-use Rattle.fixed.specs.Start.{noPair, startOf}
+use Rattle.state.specs.declared.Pair.{Pair}
+use Rattle.state.specs.Start.{noPair, startOf}
 use Rattle.fixed.specs.Filter.{sumTo}
 use Rattle.timing.specs.Lists.{Call, answer, endState, samplesOf, placesWritten, symbolCount}
 
@@ -109,4 +109,4 @@ TimingHolds = (s : Sheet) → startOf s .refused ≡ nothing → Timing s
 abbrev pub StatesGoOn : Type 0
 StatesGoOn =
     (s : Sheet) → startOf s .refused ≡ nothing → (cs : List Call) (c : Call)
-    → (answer s (endState s cs) c .refused .number ≡ 0) ⊎ (10 ≤ answer s (endState s cs) c .refused .number)
+    → let n : ℕ = answer s (endState s cs) c .refused .number in (n ≡ 0) ⊎ ((10 ≤ n) × (n ≤ 12))

@@ -3,7 +3,8 @@
 use crate::lent::{Lent, answered};
 use crate::rules;
 use crate::tally::Tally;
-use archive_calls::{SYMBOL, Sheet};
+use archive_calls::Sheet;
+use huntelm::archive::SYMBOL;
 use oracle::generate;
 use oracle::random::Random;
 use oracle::reading::Reading;
@@ -41,7 +42,7 @@ impl Call {
         let fields = rules::accepted(&self.sheet);
         let reading = fields.as_ref().map(Reading::of).map_err(|number| *number);
         let reading = reading.as_ref().map_err(|number| *number);
-        let number = self.sheet.judge();
+        let number = self.sheet.lent().judge();
         tally.refusal(number);
         tally.answer("judging", number == reading.err().unwrap_or(0));
         self.start(reading, tally, r);
@@ -52,7 +53,7 @@ impl Call {
 
     fn start(&self, reading: Result<&Reading, u32>, tally: &mut Tally, r: &mut Random) {
         let mut state = Lent::any(self.state.len(), r);
-        let number = self.sheet.start(state.places());
+        let number = self.sheet.lent().start(state.places());
         tally.refusal(number);
         tally.answer(
             "starting",
@@ -62,7 +63,7 @@ impl Call {
 
     pub fn offset(&self, reading: Result<&Reading, u32>, tally: &mut Tally, r: &mut Random) {
         let mut answer = Lent::any(self.room, r);
-        let number = self.sheet.offset(self.period, answer.places());
+        let number = self.sheet.lent().offset(self.period, answer.places());
         tally.refusal(number);
         let right = rules::offset(reading, self);
         tally.answer("the offset", answered(number, &answer, right));
@@ -70,7 +71,7 @@ impl Call {
 
     pub fn read(&self, reading: Result<&Reading, u32>, tally: &mut Tally, r: &mut Random) {
         let mut answer = Lent::any(self.room, r);
-        let number = self.sheet.read(&self.state, answer.places());
+        let number = self.sheet.lent().read(&self.state, answer.places());
         tally.refusal(number);
         let right = rules::read(reading, self);
         tally.answer("reading", answered(number, &answer, right));
@@ -87,6 +88,7 @@ impl Call {
         let mut output = Lent::any(self.places, r);
         let count = self
             .sheet
+            .lent()
             .block(state.places(), &self.values, output.places());
         match rules::block(reading, self) {
             Err(number) => {

@@ -4,6 +4,7 @@ use crate::lent::{Lent, answered};
 use crate::rules;
 use crate::tally::Tally;
 use archive_calls::{Design, Sheet};
+use huntelm::archive;
 use oracle::design::Answer;
 use oracle::floats;
 use oracle::generate;
@@ -24,7 +25,7 @@ pub fn samples(tally: &mut Tally, r: &mut Random, outstanding: &[u32]) {
     let less = r.below(floats.len() as u64 + 1) as usize;
     let long = r.pick(&[0, 0, 0, 1, 45]) + if r.one_in(6) { less } else { floats.len() };
     let mut values = Lent::any(long, r);
-    let number = archive_calls::sample(&floats, values.places());
+    let number = archive::sample(&floats, values.places());
     tally.refusal(number);
     let right = match floats.len() {
         n if n % 2 != 0 => Err(10),
@@ -82,7 +83,7 @@ pub fn designs(tally: &mut Tally, r: &mut Random) {
     };
     let places = r.pick(&[17, 17, 17, 18, 40, 16, 0]);
     let mut written = Lent::any(places, r);
-    let number = design.sheet(written.places());
+    let number = design.lent().sheet(written.places());
     tally.refusal(number);
     let right = match (unread, right) {
         (Some(number), _) => Err(number),

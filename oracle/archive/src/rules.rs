@@ -1,8 +1,9 @@
-//! What a call of the archive is to answer, whatever it is lent: the reading of document 01, behind the archive's own rules for places
+//! What a call of the archive is to answer, whatever it is lent: the reading of docs/RULES.md, behind the archive's own rules for places
 //! (crates/archive). A sheet that cannot be read is 18 or 19, then come 1 to 8; places that are those of no state are 9.
 
 use crate::calls::Call;
-use archive_calls::{STATE, SYMBOL, Sheet};
+use archive_calls::Sheet;
+use huntelm::archive::{STATE, SYMBOL};
 use oracle::reading::Reading;
 use oracle::sheet::{FIELDS, Sheet as Fields};
 use oracle::state::State;
@@ -21,7 +22,7 @@ pub fn accepted(sheet: &Sheet) -> Result<Fields, Number> {
         return Err(19);
     }
     let mut read = Fields::of(fields);
-    // isdb-rs takes the taps from a bank and tells its length row by row; document 01 tells both before all else
+    // isdb-rs takes the taps from a bank and reports its length row by row; the rules (RULES 1.4) have both before all else
     if !read.taps.is_multiple_of(2) || !(4..=64).contains(&read.taps) {
         return Err(1);
     }

@@ -5,7 +5,8 @@ use crate::calls::Call;
 use crate::lent::Lent;
 use crate::rules;
 use crate::tally::Tally;
-use archive_calls::{STATE, SYMBOL, Sheet};
+use archive_calls::Sheet;
+use huntelm::archive::{STATE, SYMBOL};
 use isdb_frontend::fixed::{Frontend, Symbol};
 use oracle::generate::Samples;
 use oracle::program;
@@ -33,8 +34,8 @@ impl<'a> Run<'a> {
         let sheet = Sheet::from(fields);
         let front = Frontend::new(fields.params()).expect("an accepted sheet");
         let mut state = Lent::any(STATE, r);
-        tally.answer("judging", sheet.judge() == 0);
-        let number = sheet.start(state.places());
+        tally.answer("judging", sheet.lent().judge() == 0);
+        let number = sheet.lent().start(state.places());
         let right = number == 0 && state.begins_with(&State::of(&front).numbers());
         tally.answer("starting", right);
         Self {
@@ -81,6 +82,7 @@ impl<'a> Run<'a> {
         self.state.keep();
         let count = self
             .sheet
+            .lent()
             .block(self.state.places(), values, output.places());
         self.symbols.clear();
         self.front.process(block, &mut self.symbols);
@@ -102,7 +104,10 @@ impl<'a> Run<'a> {
         let state = self.state.numbers() == rust.numbers();
         self.tally.answer("the state of a run", state);
         let mut answer = Lent::any(4, self.r);
-        let number = self.sheet.read(self.state.numbers(), answer.places());
+        let number = self
+            .sheet
+            .lent()
+            .read(self.state.numbers(), answer.places());
         let front = &self.front;
         let read = [
             front.period().into(),
@@ -128,7 +133,7 @@ impl<'a> Run<'a> {
     }
 
     /// The end state changed at random, within what refusal 9 lets pass, and blocks from it on. isdb-rs cannot be given such a state, so the reading of
-    /// document 01 answers.
+    /// docs/RULES.md answers.
     pub fn change(&mut self) {
         let reading = Reading::of(self.fields);
         let end = State::of(&self.front);

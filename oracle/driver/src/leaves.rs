@@ -29,15 +29,10 @@ pub fn write(seed: u64, count: u64, output: &mut impl Write) -> io::Result<()> {
                 let s = r.between(0, 63);
                 (1, v, s, 0, v >> s)
             }
+            // No function has this number any more. What it took is drawn all the same: the other calls of a seed stay as they are stored.
             2 => {
-                let (a, b) = (v as i32, edge(&mut r) as i32);
-                (
-                    2,
-                    i64::from(a),
-                    i64::from(b),
-                    0,
-                    i64::from(a) * i64::from(b),
-                )
+                edge(&mut r);
+                continue;
             }
             3 => {
                 let (x, y) = (edge(&mut r), edge(&mut r));

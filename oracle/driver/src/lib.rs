@@ -1,4 +1,4 @@
-//! Asks the Rust front end of isdb-rs: its answers, seeded inputs to ask it with, and a reading of document 01 for what it has no
+//! Asks the Rust front end of isdb-rs: its answers, seeded inputs to ask it with, and a reading of docs/RULES.md for what it has no
 //! answer to. The driver (main.rs) writes them as text; the comparison through the archive (../archive) uses them as they are.
 
 pub mod against;

@@ -1,4 +1,4 @@
-//! Runs from a fresh start, cut into blocks at random. What isdb-rs answers is held against the reading of document 01
+//! Runs from a fresh start, cut into blocks at random. What isdb-rs answers is held against the reading of docs/RULES.md
 //! before it is written, and a difference ends the driver: no row is written that only one of the two stands for. Calls
 //! that are refused have no counterpart in isdb-rs and are the reading's alone.
 
@@ -156,6 +156,6 @@ fn same(what: &str, rust: &[i64], reading: &[i64]) -> io::Result<()> {
     let at = rust.iter().zip(reading).take_while(|(a, b)| a == b).count();
     let (rust, reading) = (rust.get(at), reading.get(at));
     Err(io::Error::other(format!(
-        "isdb-rs and the reading of document 01 differ in {what}, number {at}: {rust:?} and {reading:?}"
+        "isdb-rs and the reading of docs/RULES.md differ in {what}, number {at}: {rust:?} and {reading:?}"
     )))
 }

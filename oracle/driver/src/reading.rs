@@ -1,4 +1,4 @@
-//! A reading of document 01, written apart from crates/: plain arithmetic in 128 bits and no care for speed. Of isdb-rs's
+//! A reading of docs/RULES.md, written apart from crates/: plain arithmetic in 128 bits and no care for speed. Of isdb-rs's
 //! code it uses judging and the cosine table and nothing else. It answers where isdb-rs has no answer: the offset, calls
 //! that are refused, states that no run reaches. Where isdb-rs has one, the two are held against each other (path.rs).
 

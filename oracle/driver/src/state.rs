@@ -3,7 +3,7 @@
 use isdb_frontend::fixed::Frontend;
 use std::io::{self, Write};
 
-/// A state in the form that document 01 gives it, with its numbers wide enough for any that its types can hold.
+/// A state in the form that RULES 3.1 gives it, with its numbers wide enough for any that its types can hold.
 #[derive(Debug, Clone)]
 pub struct State {
     pub nco: i128,
@@ -41,7 +41,7 @@ impl State {
         }
     }
 
-    /// The state of a front end of isdb-rs. Its queue has no positions: those of document 01 follow from the symbols that
+    /// The state of a front end of isdb-rs. Its queue has no positions: those of RULES 3.6 follow from the symbols that
     /// were made, symbol j's errors standing at place j modulo 24.
     pub fn of(front: &Frontend) -> Self {
         let text = format!("{front:?}");

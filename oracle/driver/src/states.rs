@@ -1,5 +1,5 @@
 //! States that no run reaches: good ones with anything in the line and the queue, and ones that are broken next to a
-//! bound. isdb-rs cannot be given a state, so the answers are those of the reading of document 01.
+//! bound. isdb-rs cannot be given a state, so the answers are those of the reading of docs/RULES.md.
 
 use crate::generate::{self, ends};
 use crate::random::Random;

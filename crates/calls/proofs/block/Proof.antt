@@ -14,7 +14,7 @@ use borrow.Author.Tests.{eq-eqb, ne-eqb, not-true, not-false}
 use Rattle.arith.proofs.Bits.{sfit}
 use Rattle.params.specs.declared.Params.{Params}
 use Rattle.params.specs.Judge.{Sheet, sheetOf, judged}
-use Rattle.fixed.specs.declared.Frontend.{Frontend}
+use Rattle.state.specs.declared.Frontend.{Frontend}
 use Rattle.fixed.specs.Block.{Block, blockOf, processed}
 use Rattle.places.specs.Sheet.{sheetNumber}
 use Rattle.places.specs.declared.ReadState.{ReadState}

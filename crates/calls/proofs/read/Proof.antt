@@ -18,8 +18,9 @@ use borrow.Author.Tests.{le-leb, lt-leb, not-true, not-false}
 use Rattle.arith.proofs.Bits.{sfit}
 use Rattle.params.specs.declared.Params.{Params}
 use Rattle.params.specs.Judge.{Sheet, firstOf, sheetOf, judged}
-use Rattle.fixed.specs.declared.Frontend.{Frontend}
-use Rattle.fixed.specs.Block.{Read, stateFaults, readOf, reading}
+use Rattle.state.specs.declared.Frontend.{Frontend}
+use Rattle.state.specs.Read.{Read, readOf, reading}
+use Rattle.state.specs.Check.{stateFaults}
 use Rattle.kinds.specs.Kinds.{at}
 use Rattle.places.specs.Sheet.{sheetNumber}
 use Rattle.places.specs.declared.ReadState.{ReadState}

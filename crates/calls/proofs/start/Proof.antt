@@ -8,7 +8,7 @@ use lib.IntN.{ℤ}
 use borrow.Author.Needs.{needs}
 use Rattle.params.specs.declared.Params.{Params}
 use Rattle.params.specs.Judge.{Sheet, sheetOf}
-use Rattle.fixed.specs.Start.{Start, startOf, started}
+use Rattle.state.specs.Start.{Start, startOf, started}
 use Rattle.places.specs.Answer.{answered}
 use Rattle.places.specs.Sheet.{sheetNumber}
 use Rattle.places.specs.States.{numbersOf, stateWritten}

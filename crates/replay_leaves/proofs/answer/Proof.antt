@@ -23,23 +23,11 @@ shift-right-requires c κs = search needs
 returns-2 : tie.Need-returns-2
 returns-2 c = search needs
 
-wrap-i32-requires : tie.Need-wrap-i32-requires
-wrap-i32-requires c κs = search needs
-
-wrap-i32-requires-2 : tie.Need-wrap-i32-requires-2
-wrap-i32-requires-2 c κs = search needs
-
-product-requires : tie.Need-product-requires
-product-requires c κs = search needs
-
-returns-3 : tie.Need-returns-3
-returns-3 c = search needs
-
 clamp-requires : tie.Need-clamp-requires
 clamp-requires c κs = search needs
 
-returns-4 : tie.Need-returns-4
-returns-4 c = search needs
+returns-3 : tie.Need-returns-3
+returns-3 c = search needs
 
 sat16-requires : tie.Need-sat16-requires
 sat16-requires c κs = search needs
@@ -47,8 +35,8 @@ sat16-requires c κs = search needs
 cast-result : tie.Need-cast-result
 cast-result c = widens w64 tt (sfits-of {w = w16} {z = c .sat16 .result} (c .sat16 .ok))
 
-returns-5 : tie.Need-returns-5
-returns-5 c = search needs
+returns-4 : tie.Need-returns-4
+returns-4 c = search needs
 
 wrap-u32-requires-3 : tie.Need-wrap-u32-requires-3
 wrap-u32-requires-3 c κs = search needs
@@ -56,32 +44,26 @@ wrap-u32-requires-3 c κs = search needs
 cast-result-2 : tie.Need-cast-result-2
 cast-result-2 c = search needs
 
-returns-6 : tie.Need-returns-6
-returns-6 c = search needs
+returns-5 : tie.Need-returns-5
+returns-5 c = search needs
 
-wrap-i32-requires-3 : tie.Need-wrap-i32-requires-3
-wrap-i32-requires-3 c κs = search needs
+wrap-i32-requires : tie.Need-wrap-i32-requires
+wrap-i32-requires c κs = search needs
 
 cast-result-3 : tie.Need-cast-result-3
-cast-result-3 c = widens w64 tt (sfits-of {w = w32} {z = c .wrap-i323 .result} (c .wrap-i323 .ok))
+cast-result-3 c = widens w64 tt (sfits-of {w = w32} {z = c .wrap-i32 .result} (c .wrap-i32 .ok))
 
-returns-7 : tie.Need-returns-7
-returns-7 c = search needs
+returns-6 : tie.Need-returns-6
+returns-6 c = search needs
 
 wrap-u32-requires-4 : tie.Need-wrap-u32-requires-4
 wrap-u32-requires-4 c κs = search needs
 
-cast-cos : tie.Need-cast-cos
-cast-cos c = search needs
+entry-requires : tie.Need-entry-requires
+entry-requires c κs = search needs
 
-cos-requires : tie.Need-cos-requires
-cos-requires c κs = search needs
-
-cast-result-4 : tie.Need-cast-result-4
-cast-result-4 c = widens w64 tt (sfits-of {w = w16} {z = c .cos .result} (c .cos .ok))
-
-returns-8 : tie.Need-returns-8
-returns-8 c = search needs
+returns-7 : tie.Need-returns-7
+returns-7 c = search needs
 
 pub answer-spec : {M : Type 1} → statement M
 answer-spec =
@@ -93,23 +75,17 @@ answer-spec =
     wrap-u32-requires-2
     shift-right-requires
     returns-2
-    wrap-i32-requires
-    wrap-i32-requires-2
-    product-requires
-    returns-3
     clamp-requires
-    returns-4
+    returns-3
     sat16-requires
     cast-result
-    returns-5
+    returns-4
     wrap-u32-requires-3
     cast-result-2
-    returns-6
-    wrap-i32-requires-3
+    returns-5
+    wrap-i32-requires
     cast-result-3
-    returns-7
+    returns-6
     wrap-u32-requires-4
-    cast-cos
-    cos-requires
-    cast-result-4
-    returns-8)
+    entry-requires
+    returns-7)

@@ -5,12 +5,17 @@ use lib.ListN.{length}
 use borrow.Author.Needs.{needs}
 use Rattle.replay_leaves.proofs.main.Statement.{statement}
 use Rattle.replay_leaves.proofs.main.Tie as tie
+use Rattle.replay.proofs.Cursor.new.Reads as Cursor-new-reads
+use Rattle.replay.proofs.Tally.new.Reads as Tally-new-reads
 
 abbrev Inv-loop : tie.InvT-loop
-Inv-loop bytes₀ row₀ progress₀ turns₀ n₀ bytes row progress turns n = length bytes ≡ 65536
+Inv-loop wheel bytes₀ row₀ progress₀ turns₀ n₀ bytes row progress turns n = length bytes ≡ 65536
 
 abbrev μ-loop : tie.MeasureT-loop
-μ-loop bytes₀ row₀ progress₀ turns₀ n₀ bytes row progress turns n = turns
+μ-loop wheel bytes₀ row₀ progress₀ turns₀ n₀ bytes row progress turns n = turns
+
+cos-table-requires : tie.Need-cos-table-requires Inv-loop μ-loop
+cos-table-requires c κs = search needs
 
 large-buffer-requires : tie.Need-large-buffer-requires Inv-loop μ-loop
 large-buffer-requires c κs = search needs
@@ -66,6 +71,7 @@ main-spec =
     (tie.spec
     Inv-loop
     μ-loop
+    cos-table-requires
     large-buffer-requires
     new-requires
     new-requires-2

@@ -6,10 +6,10 @@ use Rattle.replay_leaves.proofs.piece.Statement.{statement}
 use Rattle.replay_leaves.proofs.piece.Tie as tie
 
 abbrev Inv-loop : tie.InvT-loop
-Inv-loop bytes row₀ cursor₀ tally₀ row cursor tally = cursor .at ≤ length bytes
+Inv-loop wheel bytes row₀ cursor₀ tally₀ row cursor tally = cursor .at ≤ length bytes
 
 abbrev μ-loop : tie.MeasureT-loop
-μ-loop bytes row₀ cursor₀ tally₀ row cursor tally = length bytes - cursor .at
+μ-loop wheel bytes row₀ cursor₀ tally₀ row cursor tally = length bytes - cursor .at
 
 in-next-piece-requires : tie.Need-in-next-piece-requires Inv-loop μ-loop
 in-next-piece-requires c κs = search needs

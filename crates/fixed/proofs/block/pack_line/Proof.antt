@@ -11,8 +11,8 @@ use mir.Syntax.{w32}
 use borrow.Author.Needs.{needs}
 use borrow.Author.Tests.{ltb-true, ltb-false}
 use Rattle.arith.proofs.Bits.{held}
-use Rattle.fixed.specs.declared.Pair.{Pair}
-use Rattle.fixed.specs.Start.{noPair}
+use Rattle.state.specs.declared.Pair.{Pair}
+use Rattle.state.specs.Start.{noPair}
 use Rattle.fixed.specs.Inside.{lowered}
 use Rattle.fixed.proofs.Filling.{Filled, filled-none, filled-next}
 use Rattle.fixed.proofs.block.pack_line.Statement.{statement}
@@ -80,7 +80,7 @@ returns : tie.Need-returns Inv-loop μ-loop
 returns c =
     let a = c .before .before .before .before .args in
     let l = c .before .loop in
-    (search needs, λ m. choice (a .taps) m (λ h. l .inv .1 .first m (omega arith)) (λ h. l .inv .1 .rest m (omega arith)))
+    record { long = search needs; each = λ m. choice (a .taps) m (λ h. l .inv .1 .first m (omega arith)) (λ h. l .inv .1 .rest m (omega arith)) }
 
 pub pack-line-spec : {M : Type 1} → statement M
 pack-line-spec =

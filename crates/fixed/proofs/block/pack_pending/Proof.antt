@@ -7,7 +7,7 @@ use lib.IntN.{pos}
 use mir.Syntax.{w32}
 use borrow.Author.Needs.{needs}
 use Rattle.arith.proofs.Bits.{held}
-use Rattle.fixed.specs.Start.{noPending}
+use Rattle.state.specs.Start.{noPending}
 use Rattle.fixed.proofs.Filling.{Filled, filled-none, filled-next}
 use Rattle.fixed.proofs.block.pack_pending.Statement.{statement}
 use Rattle.fixed.proofs.block.pack_pending.Tie as tie

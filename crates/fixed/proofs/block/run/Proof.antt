@@ -1,8 +1,7 @@
 -- `fixed::block::run` meets its contract: each turn reads one pair, pushes it and writes its symbol, and keeps what holds of the turns before (Turns).
 -- After the last turn all pairs are taken, and what holds is the contract.
 use Prim.Native.Nat.{_+_, _-_, _*_, _/_, _<_}
-use mathlib.Core.Path.{_≡_, sym, subst, _∙_}
-use mathlib.Core.List.{List}
+use mathlib.Core.Path.{_≡_, sym, _∙_}
 use native.Mathlib.Omega.{arith}
 use lib.ListN.{length, getD}
 use lib.IntN.{pos}
@@ -10,23 +9,31 @@ use mir.Syntax.{w16}
 use mir.Val.{toZ, ofZ}
 use borrow.Author.Needs.{needs}
 use Rattle.arith.proofs.Bits.{held}
-use Rattle.params.specs.Judge.{sheetOf}
-use Rattle.fixed.specs.declared.Pair.{Pair}
-use Rattle.fixed.specs.Start.{noPair}
-use Rattle.fixed.specs.Sample.{after, emitted}
+use Rattle.params.specs.Judge.{Sheet, sheetOf}
+use Rattle.state.specs.declared.Pair.{Pair}
+use Rattle.state.specs.Start.{noPair}
 use Rattle.fixed.specs.Block.{pairsOf}
-use Rattle.fixed.specs.Inside.{Stands}
-use Rattle.fixed.proofs.Turns.{Output, Turned, Pushed, pairs-at, turned-none, turned-next, all-taken, turned-ready}
+use Rattle.fixed.specs.Inside.{Kept, kept}
+use Rattle.fixed.proofs.Turns.{Turned, Turn, pairs-at, turned-none, turned-next, turned-ready, turned-all}
 use Rattle.fixed.proofs.block.run.Statement.{statement}
 use Rattle.fixed.proofs.block.run.Tie as tie
 
 abbrev Inv-loop : tie.InvT-loop
 Inv-loop p h g k values out₀ i₀ q₀ e₀ err₀ cos registers₀ position₀ count₀ n₀ out i q e err registers position count n =
-    Turned p h g k values out₀ i₀ q₀ e₀ err₀ registers₀ position₀ out i q e err registers position count n
+    Turned (sheetOf p h g k) values out₀ (kept i₀ q₀ e₀ err₀ registers₀ position₀) out (kept i q e err registers position) count n
 
 abbrev μ-loop : tie.MeasureT-loop
 μ-loop p h g k values out₀ i₀ q₀ e₀ err₀ cos registers₀ position₀ count₀ n₀ out i q e err registers position count n =
     length values / 2 - n
+
+-- ---- the sheet, and what is kept where the block begins
+
+module _ (b : tie.Start Inv-loop μ-loop) where
+  abbrev sheet : Sheet
+  sheet = sheetOf (b .args .p) (b .args .h .now) (b .args .g .now) (b .args .k .now)
+
+  abbrev x₀ : Kept
+  x₀ = kept (b .args .i .now) (b .args .q .now) (b .args .e .now) (b .args .err .now) (b .args .r) (b .args .w)
 
 cos-table-requires : tie.Need-cos-table-requires Inv-loop μ-loop
 cos-table-requires c κs = tt
@@ -34,8 +41,7 @@ cos-table-requires c κs = tt
 loop-holds : tie.Need-loop-holds Inv-loop μ-loop
 loop-holds c =
     let b = c .before .before .before in
-    let a = b .args in
-    turned-none (a .p) (a .h .now) (a .g .now) (a .k .now) (a .values .now) (a .out .now) (a .i .now) (a .q .now) (a .e .now) (a .err .now) (a .r) (a .w) (b .pre .0)
+    turned-none (sheet b) (b .args .values .now) (b .args .out .now) (x₀ b) (b .pre .0)
 
 mul-push : tie.Need-mul-push Inv-loop μ-loop
 mul-push c = search needs
@@ -73,54 +79,52 @@ module _ (c : tie.In-loop Inv-loop μ-loop) where
 push-requires : tie.Need-push-requires Inv-loop μ-loop
 push-requires c κs =
     let t = c .before .before .before .before .before .before .before in
-    let b = start t in
-    let a = b .args in (
+    let b = start t in (
       at-loop t .before .cos-table .ensures,
-      turned-ready (a .p) (a .h .now) (a .g .now) (a .k .now) (a .values .now) (a .out .now) (a .i .now) (a .q .now) (a .e .now) (a .err .now) (a .r) (a .w) (at-loop t .loop .inv) (below t) (b .pre .1 .1),
+      turned-ready (sheet b) (b .args .values .now) (b .args .out .now) (x₀ b) (b .pre .1 .0) (b .pre .1 .1) (at-loop t .loop .inv) (below t),
     )
 
 module _ (c : tie.After-push Inv-loop μ-loop) where
   abbrev turn : tie.In-loop Inv-loop μ-loop
   turn = c .before .before .before .before .before .before .before .before
 
+  abbrev b : tie.Start Inv-loop μ-loop
+  b = start turn
+
   abbrev read : Pair
   read =
-      let values = start turn .args .values .now in
+      let values = b .args .values .now in
       let n = at-loop turn .loop .n in
       record { i = toZ w16 (ofZ w16 (getD values (2 * n) (pos 0))); q = toZ w16 (ofZ w16 (getD values (2 * n + 1) (pos 0))) }
 
-  read-is : getD (pairsOf (start turn .args .values .now)) (at-loop turn .loop .n) noPair ≡ read
+  read-is : getD (pairsOf (b .args .values .now)) (at-loop turn .loop .n) noPair ≡ read
   read-is =
-      let values = start turn .args .values .now in
+      let values = b .args .values .now in
       let n = at-loop turn .loop .n in
       let i = held w16 (getD values (2 * n) (pos 0)) (c .before .before .push-arg5 .given) in
       let q = held w16 (getD values (2 * n + 1) (pos 0)) (c .before .push-arg6 .given) in
       pairs-at values n (below turn) ∙ sym (λ t. record { i = i t; q = q t })
 
-  pushed-is :
-      let a = start turn .args in
-      let l = at-loop turn .loop in
-      let x = c .push .last .1 .1 .1 .1 .1 in
-      Pushed (a .p) (a .h .now) (a .g .now) (a .k .now) (a .values .now) (a .out .now) (a .i .now) (a .q .now) (a .e .now) (a .err .now) (a .r) (a .w)
-      (l .i) (l .q) (l .e) (l .err) (l .registers) (l .position) read (x .0) (x .1 .0) (x .1 .1 .0) (x .1 .1 .1 .0) (c .push .result .registers) (c .push .result .position)
-      (c .push .result .made) (c .push .result .symbol)
-  pushed-is = record {
-    good = c .push .ensures .1 .0 .0;
-    samples = c .push .ensures .1 .0 .1;
+  -- What was kept before the sample, and what is kept after it.
+  abbrev before : Kept
+  before = let l = at-loop turn .loop in kept (l .i) (l .q) (l .e) (l .err) (l .registers) (l .position)
+
+  abbrev behind : Kept
+  behind =
+      let last = c .push .last .1 .1 .1 .1 .1 in
+      kept (last .0) (last .1 .0) (last .1 .1 .0) (last .1 .1 .1 .0) (c .push .result .registers) (c .push .result .position)
+
+  turns : Turn (sheet b) (b .args .values .now) (b .args .out .now) (x₀ b) before behind read (c .push .result .made) (c .push .result .symbol)
+  turns = record {
+    pushes = c .push .ensures;
     long-i = c .push .kept .1 .1 .1 .1 .1 .0;
     long-q = c .push .kept .1 .1 .1 .1 .1 .1 .0;
     long-e = c .push .kept .1 .1 .1 .1 .1 .1 .1 .0;
     long-err = c .push .kept .1 .1 .1 .1 .1 .1 .1 .1 .0;
-    makes = c .push .ensures .1 .1 .0;
-    goes = c .push .ensures .1 .1 .1;
   }
 
 emit-requires : tie.Need-emit-requires Inv-loop μ-loop
-emit-requires c κs =
-    let u = c .before .before .before .before .before .before .before .before in
-    let t = u .before .before .before .before .before .before .before .before in
-    let inv = at-loop t .loop .inv in
-    (omega (arith, inv .few, inv .long, below t, start t .pre .1 .0), λ made. rw (u .push .ensures .0 made) (omega (arith, inv .at, below t, start t .pre .1 .1)))
+emit-requires c κs = search needs
 
 add-n : tie.Need-add-n Inv-loop μ-loop
 add-n c =
@@ -136,10 +140,9 @@ loop-again : tie.Need-loop-again Inv-loop μ-loop
 loop-again c =
     let e = c .before .before .before in
     let u = c .before .before .before .before .before .before .before .before .before .before .before .before in
-    let t = u .before .before .before .before .before .before .before .before in
-    let a = start t .args in
-    turned-next (a .p) (a .h .now) (a .g .now) (a .k .now) (a .values .now) (a .out .now) (a .i .now) (a .q .now) (a .e .now) (a .err .now) (a .r) (a .w)
-    (at-loop t .loop .inv) (below t) (read-is u) (pushed-is u) (e .emit .ensures .0) (e .emit .ensures .1) (e .emit .kept .0)
+    let b = b u in
+    turned-next (sheet b) (b .args .values .now) (b .args .out .now) (x₀ b) (b .pre .1 .0) (b .pre .1 .1)
+    (at-loop (turn u) .loop .inv) (below (turn u)) (read-is u) (turns u) (e .emit .ensures) (e .emit .kept .0)
 
 same-length : tie.Need-same-length Inv-loop μ-loop
 same-length c = c .before .loop .inv .long
@@ -160,16 +163,7 @@ returns : tie.Need-returns Inv-loop μ-loop
 returns c =
     let l = c .before in
     let b = l .before .before .before .before in
-    let a = b .args in
-    let inv = l .loop .inv in
-    let s = sheetOf (a .p) (a .h .now) (a .g .now) (a .k .now) in
-    let all = all-taken (a .p) (a .h .now) (a .g .now) (a .k .now) (a .values .now) (a .out .now) (a .i .now) (a .q .now) (a .e .now) (a .err .now) (a .r) (a .w) (l .loop .n) (c .loop-test .left) in (
-      λ f first.
-          let o = subst (λ (xs : List Pair). Output (emitted s f xs) (a .out .now) (l .loop .out) (l .loop .count)) all (inv .output f first) in
-          (o .counted, o .places),
-      λ f first.
-          subst (λ (xs : List Pair). Stands (a .p .taps) (l .loop .i) (l .loop .q) (l .loop .e) (l .loop .err) (l .loop .registers) (l .loop .position) (after s f xs)) all (inv .stands f first),
-    )
+    turned-all (sheet b) (b .args .values .now) (b .args .out .now) (x₀ b) (l .loop .inv) (c .loop-test .left)
 
 pub run-spec : {M : Type 1} → statement M
 run-spec =

@@ -7,7 +7,7 @@ use lib.ListN.{getD}
 use mir.Syntax.{w32}
 use borrow.Author.Needs.{needs}
 use Rattle.arith.proofs.Bits.{held}
-use Rattle.fixed.specs.Start.{noPair}
+use Rattle.state.specs.Start.{noPair}
 use Rattle.fixed.specs.Inside.{lowered}
 use Rattle.fixed.proofs.Filling.{Laying, laying-none, laying-next, laying-all}
 use Rattle.fixed.proofs.block.unpack_line.Statement.{statement}

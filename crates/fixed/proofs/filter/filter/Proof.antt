@@ -6,7 +6,7 @@ use native.Mathlib.Omega.{arith}
 use lib.ListN.{length, getD, take, drop}
 use lib.IntN.{ℤ, pos}
 use borrow.Author.Needs.{needs}
-use Rattle.fixed.specs.declared.Sums.{Sums}
+use Rattle.symbol.specs.declared.Sums.{Sums}
 use Rattle.fixed.specs.Inside.{sumsOver, Row, DetectorRow}
 use Rattle.fixed.proofs.Centre.{low, wide, part-row, part-sums}
 use Rattle.fixed.proofs.filter.filter.Statement.{statement}

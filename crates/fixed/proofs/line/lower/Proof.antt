@@ -9,7 +9,7 @@ use borrow.Author.Needs.{needs}
 use Rattle.arith.proofs.Order.{minus-pn, pn-fit}
 use Rattle.arith.proofs.Bits.{whole}
 use Rattle.fixed.specs.Inside.{lowered}
-use Rattle.fixed.proofs.Widths.{narrows, narrowed}
+use Rattle.arith.proofs.Widths.{narrows, narrowed}
 use Rattle.fixed.proofs.line.lower.Statement.{statement}
 use Rattle.fixed.proofs.line.lower.Tie as tie
 

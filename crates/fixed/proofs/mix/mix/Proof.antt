@@ -14,7 +14,7 @@ use Rattle.arith.proofs.Bits.{sfit, back, held, widens}
 use Rattle.tables.specs.Wheel.{wheel, entries, wheelTable}
 use Rattle.tables.proofs.Wheel.{wheel-mod}
 use Rattle.fixed.specs.Mix.{unscaled, mixed}
-use Rattle.fixed.proofs.Widths.{wide, in64, product-abs, product-fits, product-is, sum-abs, sum-fits, sum-is}
+use Rattle.arith.proofs.Widths.{wide, in64, product-abs, product-fits, product-is, sum-abs, sum-fits, sum-is}
 use Rattle.fixed.proofs.mix.mix.Statement.{statement}
 use Rattle.fixed.proofs.mix.mix.Tie as tie
 

@@ -9,7 +9,7 @@ use mir.Facts.{toZ-ofZ}
 use Rattle.arith.proofs.Magnitude.{abs-add, abs-shr-pow}
 use Rattle.arith.proofs.Bits.{sfit, back}
 use Rattle.fixed.specs.Mix.{unscaled}
-use Rattle.fixed.proofs.Widths.{narrows, narrowed}
+use Rattle.arith.proofs.Widths.{narrows, narrowed}
 use Rattle.fixed.proofs.mix.without_scale.Statement.{statement}
 use Rattle.fixed.proofs.mix.without_scale.Tie as tie
 

@@ -1,7 +1,7 @@
 -- `fixed::sample::push` meets its contract: what is kept once the sample was mixed and joined stands for the state with the sample joined (Kept).
 -- The test that decides whether a symbol is made is the one on the state, since the time is the state's.
-use Prim.Native.Nat.{ℕ, _+_, _≤_, _<_}
-use mathlib.Core.Path.{_≡_, refl, sym, ap, subst, _∙_}
+use Prim.Native.Nat.{ℕ, _+_}
+use mathlib.Core.Path.{_≡_, sym, ap, subst, _∙_}
 use mathlib.Core.Bool.{Bool, true, false, true≢false}
 use mathlib.Core.List.{List}
 use native.Mathlib.Omega.{arith}
@@ -12,40 +12,45 @@ use mir.Syntax.{w32, w64}
 use mir.Facts.{toZ-ofZ}
 use borrow.Author.Needs.{needs}
 use Rattle.arith.proofs.Bits.{back, held}
+use Rattle.arith.proofs.Widths.{in64}
 use Rattle.params.specs.Judge.{Sheet, sheetOf}
-use Rattle.fixed.specs.declared.Pair.{Pair}
-use Rattle.fixed.specs.declared.Registers.{Registers}
-use Rattle.fixed.specs.declared.Position.{Position}
-use Rattle.fixed.specs.declared.Frontend.{Frontend}
+use Rattle.registers.specs.declared.Registers.{Registers}
+use Rattle.registers.specs.Step.{one}
+use Rattle.registers.proofs.Loops.{loopOf}
+use Rattle.state.specs.declared.Pair.{Pair}
+use Rattle.state.specs.declared.Position.{Position}
+use Rattle.state.specs.declared.Frontend.{Frontend}
+use Rattle.fixed.specs.Mix.{mixed, nextNco}
 use Rattle.fixed.specs.Line.{nextHead}
-use Rattle.fixed.specs.Mix.{mixed, turned}
-use Rattle.fixed.specs.Sample.{one, joined, falls}
-use Rattle.fixed.specs.Block.{goodState}
-use Rattle.fixed.specs.Inside.{lowered, bare, Stands, Ready}
-use Rattle.fixed.proofs.Loops.{loopOf}
-use Rattle.fixed.proofs.Widths.{in64}
-use Rattle.fixed.proofs.States.{Going}
-use Rattle.fixed.proofs.Kept.{v-small, same-stands, same-ready, turnedOn, movedTo, accepted, ready-going, head-fits, ready-joined, stands-joined, silent, silent-good, stands-silent, next-sounded, next-silent, made-sounded, made-silent}
+use Rattle.fixed.specs.Sample.{joined, withoutSymbol, falls}
+use Rattle.fixed.specs.Inside.{lowered, Kept, kept, Stands, Ready, GoesOn}
+use Rattle.state.specs.Check.{outline}
+use Rattle.state.proofs.Going.{Going}
+use Rattle.fixed.proofs.Kept.{v-small, keptJoined, keptWithout, accepted, ready-going, head-fits, ready-joined, stands-joined, without-symbol-on, stands-without, next-with, next-without, made-with, made-without}
 use Rattle.fixed.proofs.sample.push.Statement.{statement}
 use Rattle.fixed.proofs.sample.push.Tie as tie
 
 -- ---- what holds at the start
 
 module _ (b : tie.Start) where
-  abbrev going-at : Going (b .args .p) (bare (b .args .r) (b .args .w))
-  going-at = ready-going (b .args .p) (b .args .h .now) (b .args .g .now) (b .args .k .now) (b .args .i .now) (b .args .q .now) (b .args .e .now) (b .args .err .now) (b .args .r) (b .args .w) (b .pre .1)
+  abbrev sheet : Sheet
+  sheet = sheetOf (b .args .p) (b .args .h .now) (b .args .g .now) (b .args .k .now)
 
-  fits-at : (nextHead (b .args .p .taps) (b .args .w .head) < b .args .p .taps) × (b .args .p .taps ≤ 64)
-  fits-at = head-fits (b .args .p) (b .args .h .now) (b .args .g .now) (b .args .k .now) (b .args .i .now) (b .args .q .now) (b .args .e .now) (b .args .err .now) (b .args .r) (b .args .w) (b .pre .1)
+  abbrev x : Kept
+  x = kept (b .args .i .now) (b .args .q .now) (b .args .e .now) (b .args .err .now) (b .args .r) (b .args .w)
+
+  abbrev pair : Pair
+  pair = record { i = b .args .x; q = b .args .y }
+
+  going-at : Going (b .args .p) (outline (b .args .r) (b .args .w))
+  going-at = ready-going (b .pre .1)
 
   -- time and integrator, read back
   time-is : in64 (b .args .r .«t_acc») ≡ b .args .r .«t_acc»
   time-is = back w64 (b .args .r .«t_acc») (omega (arith, going-at .soon))
 
   v-is : in64 (b .args .r .v) ≡ b .args .r .v
-  v-is =
-      let fields = accepted (b .args .p) (b .args .h .now) (b .args .g .now) (b .args .k .now) (b .args .i .now) (b .args .q .now) (b .args .e .now) (b .args .err .now) (b .args .r) (b .args .w) (b .pre .1) .fields in
-      back w64 (b .args .r .v) (omega (arith, v-small (b .args .p) (loopOf (b .args .r)) fields (going-at .loop)))
+  v-is = back w64 (b .args .r .v) (omega (arith, v-small (b .args .p) (loopOf (b .args .r)) (accepted (b .pre .1) .fields) (going-at .loop)))
 
 -- ---- the sample joins
 
@@ -64,7 +69,8 @@ raise-requires c κs = search needs
 join-requires : tie.Need-join-requires
 join-requires c κs =
     let b = c .before .before .before .before .before .before .before .before in
-    (b .pre .1 .long-i, (rw (c .before .before .before .next-head .ensures) (fits-at b .0), fits-at b .1))
+    let fits = head-fits (b .pre .1) in
+    (b .pre .1 .begun .long-i, (rw (c .before .before .before .next-head .ensures) (fits .0), fits .1))
 
 raise-requires-2 : tie.Need-raise-requires-2
 raise-requires-2 c κs = search needs
@@ -72,17 +78,18 @@ raise-requires-2 c κs = search needs
 join-requires-2 : tie.Need-join-requires-2
 join-requires-2 c κs =
     let b = c .before .before .before .before .before .before .before .before .before .before .before .before .before .before in
-    (b .pre .1 .long-q, (rw (c .before .before .before .before .before .before .before .before .before .next-head .ensures) (fits-at b .0), fits-at b .1))
+    let fits = head-fits (b .pre .1) in
+    (b .pre .1 .begun .long-q, (rw (c .before .before .before .before .before .before .before .before .before .next-head .ensures) (fits .0), fits .1))
 
-turn-requires : tie.Need-turn-requires
-turn-requires c κs = search needs
+next-nco-requires : tie.Need-next-nco-requires
+next-nco-requires c κs = search needs
 
 module _ (c : tie.After-struct-told5) where
-  abbrev turn-at : tie.After-turn
-  turn-at = c .before .before .before
+  abbrev nco-at : tie.After-next-nco
+  nco-at = c .before .before .before
 
   abbrev second : tie.After-join2
-  second = turn-at .before .before .before .before
+  second = nco-at .before .before .before .before
 
   abbrev first : tie.After-join
   first = second .before .before .before .before .before .before
@@ -93,83 +100,65 @@ module _ (c : tie.After-struct-told5) where
   abbrev b : tie.Start
   b = head-at .before .before .before .before .before
 
-  abbrev sheet : Sheet
-  sheet = sheetOf (b .args .p) (b .args .h .now) (b .args .g .now) (b .args .k .now)
-
-  abbrev pair : Pair
-  pair = record { i = b .args .x; q = b .args .y }
-
-  mix-is : head-at .before .mix .result ≡ mixed (b .args .r .nco) pair
+  mix-is : head-at .before .mix .result ≡ mixed (b .args .r .nco) (pair b)
   mix-is = simp (toZ-ofZ (b .fits .x), toZ-ofZ (b .fits .y)) at (head-at .before .mix .ensures)
 
-  raised-i : lowered (first .before .raise .result) ≡ mixed (b .args .r .nco) pair .i
-  raised-i = first .before .raise .ensures ∙ held w32 (head-at .before .mix .result .i) (first .before .before .struct-told .given .0 .1) ∙ ap (λ (m : Pair). m .i) mix-is
+  raised-i : lowered (first .before .raise .result) ≡ mixed (b .args .r .nco) (pair b) .i
+  raised-i =
+      first .before .raise .ensures ∙ held w32 (head-at .before .mix .result .i) (first .before .before .struct-told .given .0 .1) ∙ ap (λ (m : Pair). m .i) mix-is
 
-  raised-q : lowered (second .before .raise2 .result) ≡ mixed (b .args .r .nco) pair .q
-  raised-q = second .before .raise2 .ensures ∙ held w32 (head-at .before .mix .result .q) (second .before .before .struct-told2 .given .1 .0 .1) ∙ ap (λ (m : Pair). m .q) mix-is
+  raised-q : lowered (second .before .raise2 .result) ≡ mixed (b .args .r .nco) (pair b) .q
+  raised-q =
+      second .before .raise2 .ensures ∙ held w32 (head-at .before .mix .result .q) (second .before .before .struct-told2 .given .1 .0 .1)
+      ∙ ap (λ (m : Pair). m .q) mix-is
 
-  turn-is : turn-at .turn .result ≡ turned (b .args .p) (b .args .r .nco)
-  unfolding turned
-  turn-is = simp (held w32 (b .args .p .«nco_step») (turn-at .before .struct-told3 .given .1 .0 .1)) at (turn-at .turn .ensures)
+  nco-is : nco-at .next-nco .result ≡ nextNco (b .args .p) (b .args .r .nco)
+  unfolding nextNco
+  nco-is = simp (held w32 (b .args .p .«nco_step») (nco-at .before .struct-told3 .given .1 .0 .1)) at (nco-at .next-nco .ensures)
 
-  -- The arrays, registers and positions now.
-  abbrev line-i : List ℕ
-  line-i = first .join .last .0
-
-  abbrev line-q : List ℕ
-  line-q = second .join2 .last .0
-
-  abbrev left : Registers
-  left =
+  -- What is kept now.
+  abbrev turned : Registers
+  turned =
       let r = b .args .r in
-      record { nco = turn-at .turn .result; «t_acc» = in64 (r .«t_acc»); v = in64 (r .v); period = r .period; «gain_acc» = r .«gain_acc»; symbols = r .symbols }
+      record { nco = nco-at .next-nco .result; «t_acc» = in64 (r .«t_acc»); v = in64 (r .v); period = r .period; «gain_acc» = r .«gain_acc»; symbols = r .symbols }
 
-  abbrev stood : Position
-  stood = movedTo (head-at .next-head .result) (b .args .w)
+  abbrev joinedAt : Position
+  joinedAt = let w = b .args .w in record { head = head-at .next-head .result; oldest = w .oldest; waiting = w .waiting; samples = w .samples }
 
-  -- and as the definition has them
-  abbrev head : ℕ
-  head = nextHead (b .args .p .taps) (b .args .w .head)
+  abbrev y : Kept
+  y = kept (first .join .last .0) (second .join2 .last .0) (b .args .e .now) (b .args .err .now) turned joinedAt
 
-  abbrev laid : List ℕ → ℕ → List ℕ
-  laid kept x = set (set kept head x) (head + b .args .p .taps) x
+  -- a component of the line, as the definition has it and as it is
+  laid : (old : List ℕ) (value : ℕ) {new : List ℕ}
+      → let head : ℕ = head-at .next-head .result in
+      new ≡ set (set old head value) (head + b .args .p .taps) value
+      → let head : ℕ = nextHead (b .args .p .taps) (b .args .w .head) in
+      set (set old head value) (head + b .args .p .taps) value ≡ new
+  laid old value e = ap (λ (n : ℕ). set (set old n value) (n + b .args .p .taps) value) (sym (head-at .next-head .ensures)) ∙ sym e
 
-  laid-i : laid (b .args .i .now) (first .before .raise .result) ≡ line-i
-  laid-i =
-      let x = first .before .raise .result in
-      ap (λ (n : ℕ). set (set (b .args .i .now) n x) (n + b .args .p .taps) x) (sym (head-at .next-head .ensures)) ∙ sym (first .join .ensures)
-
-  laid-q : laid (b .args .q .now) (second .before .raise2 .result) ≡ line-q
-  laid-q =
-      let x = second .before .raise2 .result in
-      ap (λ (n : ℕ). set (set (b .args .q .now) n x) (n + b .args .p .taps) x) (sym (head-at .next-head .ensures)) ∙ sym (second .join2 .ensures)
-
-  left-is : turnedOn (b .args .p) (b .args .r) ≡ left
-  left-is =
+  kept-is : keptJoined (b .pre .1) (first .before .raise .result) (second .before .raise2 .result) ≡ y
+  kept-is =
       let r = b .args .r in
-      sym (λ i. record { nco = turn-is i; «t_acc» = time-is b i; v = v-is b i; period = r .period; «gain_acc» = r .«gain_acc»; symbols = r .symbols })
+      let w = b .args .w in
+      let line-i = laid (b .args .i .now) (first .before .raise .result) (first .join .ensures) in
+      let line-q = laid (b .args .q .now) (second .before .raise2 .result) (second .join2 .ensures) in
+      λ t. kept (line-i t) (line-q t) (b .args .e .now) (b .args .err .now)
+      (record { nco = sym nco-is t; «t_acc» = sym (time-is b) t; v = sym (v-is b) t; period = r .period; «gain_acc» = r .«gain_acc»; symbols = r .symbols })
+      (record { head = sym (head-at .next-head .ensures) t; oldest = w .oldest; waiting = w .waiting; samples = w .samples })
 
-  stood-is : movedTo head (b .args .w) ≡ stood
-  stood-is = ap (λ (n : ℕ). movedTo n (b .args .w)) (sym (head-at .next-head .ensures))
+  ready-now : Ready (sheet b) y
+  ready-now = subst (Ready (sheet b)) kept-is (ready-joined (b .pre .1) (first .before .raise .result) (second .before .raise2 .result))
 
-  ready-now : Ready (b .args .p) (b .args .h .now) (b .args .g .now) (b .args .k .now) line-i line-q (b .args .e .now) (b .args .err .now) left stood
-  ready-now =
-      let a = b .args in
-      same-ready laid-i laid-q left-is stood-is
-      (ready-joined (a .p) (a .h .now) (a .g .now) (a .k .now) (a .i .now) (a .q .now) (a .e .now) (a .err .now) (a .r) (a .w) (b .pre .1) (first .before .raise .result) (second .before .raise2 .result))
-
-  stands-now : (f : Frontend) → Stands (b .args .p .taps) (b .args .i .now) (b .args .q .now) (b .args .e .now) (b .args .err .now) (b .args .r) (b .args .w) f
-      → Stands (b .args .p .taps) line-i line-q (b .args .e .now) (b .args .err .now) left stood (joined sheet f pair)
+  stands-now : (f : Frontend) → Stands (b .args .p .taps) (x b) f → Stands (b .args .p .taps) y (joined (sheet b) f (pair b))
   stands-now f stands =
-      let a = b .args in
-      same-stands laid-i laid-q refl refl left-is stood-is
-      (stands-joined (a .p) (a .h .now) (a .g .now) (a .k .now) (a .i .now) (a .q .now) (a .e .now) (a .err .now) (a .r) (a .w) (b .pre .1) f stands pair
-      (first .before .raise .result) (second .before .raise2 .result) raised-i raised-q)
+      subst (λ (z : Kept). Stands (b .args .p .taps) z (joined (sheet b) f (pair b))) kept-is
+      (stands-joined (b .pre .1) f stands (pair b) (first .before .raise .result) (second .before .raise2 .result) raised-i raised-q)
 
   -- the test on the time is the state's
-  falls-is : (f : Frontend) (t : Bool) → Stands (b .args .p .taps) (b .args .i .now) (b .args .q .now) (b .args .e .now) (b .args .err .now) (b .args .r) (b .args .w) f
-      → ltZ (in64 (b .args .r .«t_acc»)) one ≡ t → falls f ≡ t
+  falls-is : (f : Frontend) (t : Bool) → Stands (b .args .p .taps) (x b) f → ltZ (in64 (b .args .r .«t_acc»)) one ≡ t → falls f ≡ t
   falls-is f t stands test = ap (λ (r : Registers). ltZ (r .«t_acc») one) (stands .registers) ∙ ap (λ (z : ℤ). ltZ z one) (sym (time-is b)) ∙ test
+
+-- ---- with a symbol
 
 with-symbol-requires : tie.Need-with-symbol-requires
 with-symbol-requires c κs =
@@ -192,20 +181,24 @@ returns : tie.Need-returns
 returns c =
     let w = c .before .before in
     let d = w .before .before .before .before .before .before in
-    let a = b d .args in
     let test = w .before .before .before .before .before .if1 .taken in
-    let e = w .with-symbol .ensures in (
-      λ made. e .0 .1,
-      (
-        e .1 .0,
-        (
-          λ f stands. made-sounded (sheet d) f (pair d) (w .with-symbol .result .made) (w .with-symbol .result .symbol) (falls-is d f true stands test) (e .0 .0) (e .1 .1 .0 (joined (sheet d) f (pair d)) (stands-now d f stands)),
-          λ f stands.
-              subst (Stands (a .p .taps) (line-i d) (line-q d) (w .with-symbol .last .1 .1 .1 .1 .1 .1 .0) (w .with-symbol .last .1 .1 .1 .1 .1 .1 .1 .0) (w .with-symbol .result .registers) (w .with-symbol .result .position))
-              (next-sounded (sheet d) f (pair d) (falls-is d f true stands test)) (e .1 .1 .1 (joined (sheet d) f (pair d)) (stands-now d f stands)),
-        ),
-      ),
-    )
+    let made = w .with-symbol .ensures .0 in
+    let makes = w .with-symbol .ensures .1 in
+    let z : Kept =
+    kept (y d .i) (y d .q) (w .with-symbol .last .1 .1 .1 .1 .1 .1 .0) (w .with-symbol .last .1 .1 .1 .1 .1 .1 .1 .0) (w .with-symbol .result .registers)
+    (w .with-symbol .result .position) in
+    record {
+      on = record { good = makes .on .good; samples = makes .on .samples };
+      sample = λ m. makes .sample;
+      makes = λ f stands.
+          made-with (sheet (b d)) f (pair (b d)) (w .with-symbol .result .made) (w .with-symbol .result .symbol) (falls-is d f true stands test) made
+          (makes .is (joined (sheet (b d)) f (pair (b d))) (stands-now d f stands));
+      state = λ f stands.
+          subst (Stands (b d .args .p .taps) z) (next-with (sheet (b d)) f (pair (b d)) (falls-is d f true stands test))
+          (makes .state (joined (sheet (b d)) f (pair (b d))) (stands-now d f stands));
+    }
+
+-- ---- without one
 
 without-symbol-requires : tie.Need-without-symbol-requires
 without-symbol-requires c κs =
@@ -221,27 +214,21 @@ same-length-6 c = search needs
 returns-2 : tie.Need-returns-2
 returns-2 c =
     let d = c .before .before in
-    let a = b d .args in
     let test = c .before .if1 .left in
     let out = c .without-symbol .result in
     let e = c .without-symbol .ensures in
-    let silence = silent-good (a .p) (a .h .now) (a .g .now) (a .k .now) (line-i d) (line-q d) (a .e .now) (a .err .now) (left d) (stood d) (ready-now d) test in (
-      λ made. absurd (true≢false (sym made ∙ e .1 .1)),
-      (
-        (
-          subst (λ (r : Registers). goodState (a .p) (bare r (out .position)) ≡ true) (sym (e .0))
-              (subst (λ (w : Position). goodState (a .p) (bare (silent (left d)) w) ≡ true) (sym (e .1 .0)) silence),
-          ap (λ (w : Position). w .samples) (e .1 .0),
-        ),
-        (
-          λ f stands. made-silent (sheet d) f (pair d) (out .made) (out .symbol) (falls-is d f false stands test) (e .1 .1),
-          λ f stands.
-              subst (Stands (a .p .taps) (line-i d) (line-q d) (a .e .now) (a .err .now) (out .registers) (out .position)) (next-silent (sheet d) f (pair d) (falls-is d f false stands test))
-              (same-stands refl refl refl refl (sym (e .0)) (sym (e .1 .0))
-              (stands-silent (a .p) (a .h .now) (a .g .now) (a .k .now) (line-i d) (line-q d) (a .e .now) (a .err .now) (left d) (stood d) (ready-now d) (joined (sheet d) f (pair d)) (stands-now d f stands))),
-        ),
-      ),
-    )
+    let z : Kept = kept (y d .i) (y d .q) (y d .e) (y d .err) (out .registers) (out .position) in
+    let kept-so : keptWithout (y d) ≡ z = λ t. kept (y d .i) (y d .q) (y d .e) (y d .err) (sym (e .0) t) (sym (e .1 .0) t) in
+    let on = subst (GoesOn (sheet (b d)) (y d)) kept-so (without-symbol-on (ready-now d) test) in
+    record {
+      on = record { good = on .good; samples = on .samples };
+      sample = λ made. absurd (true≢false (sym made ∙ e .1 .1));
+      makes = λ f stands. made-without (sheet (b d)) f (pair (b d)) (out .made) (out .symbol) (falls-is d f false stands test) (e .1 .1);
+      state = λ f stands.
+          subst (Stands (b d .args .p .taps) z) (next-without (sheet (b d)) f (pair (b d)) (falls-is d f false stands test))
+          (subst (λ (k : Kept). Stands (b d .args .p .taps) k (withoutSymbol (joined (sheet (b d)) f (pair (b d))))) kept-so
+          (stands-without (ready-now d) (joined (sheet (b d)) f (pair (b d))) (stands-now d f stands)));
+    }
 
 pub push-spec : {M : Type 1} → statement M
 push-spec =
@@ -254,7 +241,7 @@ push-spec =
     join-requires
     raise-requires-2
     join-requires-2
-    turn-requires
+    next-nco-requires
     with-symbol-requires
     same-length
     same-length-2

@@ -9,7 +9,7 @@ use mir.Val.{toZ, ofZ}
 use borrow.Author.Needs.{needs}
 use Rattle.arith.proofs.Magnitude.{abs-minus}
 use Rattle.arith.proofs.Bits.{sfit, back, held}
-use Rattle.fixed.specs.Sample.{one}
+use Rattle.registers.specs.Step.{one}
 use Rattle.fixed.proofs.sample.without_symbol.Statement.{statement}
 use Rattle.fixed.proofs.sample.without_symbol.Tie as tie
 

@@ -8,8 +8,8 @@ use mir.Syntax.{w32}
 use denote.Ref.{now}
 use borrow.Author.Needs.{needs}
 use Rattle.arith.proofs.Bits.{held}
-use Rattle.fixed.specs.declared.Pair.{Pair}
-use Rattle.fixed.specs.Start.{noPair}
+use Rattle.state.specs.declared.Pair.{Pair}
+use Rattle.state.specs.Start.{noPair}
 use Rattle.places.proofs.Readable.{state-long, pair-at}
 use Rattle.places.proofs.Pairs.{Taken, taken-none, taken-next, taken-all}
 use Rattle.places.proofs.states.line_of.Statement.{statement}

@@ -8,8 +8,8 @@ use mir.Syntax.{w32}
 use denote.Ref.{now}
 use borrow.Author.Needs.{needs}
 use Rattle.arith.proofs.Bits.{held}
-use Rattle.fixed.specs.declared.Pending.{Pending}
-use Rattle.fixed.specs.Start.{noPending}
+use Rattle.registers.specs.declared.Pending.{Pending}
+use Rattle.state.specs.Start.{noPending}
 use Rattle.places.proofs.Readable.{state-long, pair-at}
 use Rattle.places.proofs.Pairs.{Taken, taken-none, taken-next, taken-all}
 use Rattle.places.proofs.states.pending_of.Statement.{statement}

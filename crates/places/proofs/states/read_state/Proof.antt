@@ -8,7 +8,7 @@ use lib.ListN.{getD}
 use borrow.Author.Needs.{needs}
 use borrow.Author.Tests.{not-true, not-false}
 use Rattle.kinds.specs.Kinds.{KindAt}
-use Rattle.fixed.specs.declared.Frontend.{Frontend}
+use Rattle.state.specs.declared.Frontend.{Frontend}
 use Rattle.places.specs.States.{stateFits, stateOf, readState}
 use Rattle.places.proofs.Readable.{firstKinds, state-at}
 use Rattle.places.proofs.states.read_state.Statement.{statement}

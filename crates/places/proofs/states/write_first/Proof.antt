@@ -13,7 +13,7 @@ use mir.Val.{Fits, toZ, ofZ}
 use mir.Facts.{toZ-pos}
 use borrow.Author.Needs.{needs}
 use Rattle.arith.proofs.Bits.{sfit, held, whole}
-use Rattle.fixed.specs.declared.Frontend.{Frontend}
+use Rattle.state.specs.declared.Frontend.{Frontend}
 use Rattle.places.specs.States.{firstNumbers}
 use Rattle.places.proofs.Placed.{Placed, placed}
 use Rattle.places.proofs.states.write_first.Statement.{statement}

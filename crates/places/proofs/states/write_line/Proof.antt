@@ -8,8 +8,8 @@ use mir.Syntax.{w32, w64}
 use mir.Val.{SFits}
 use borrow.Author.Needs.{needs}
 use Rattle.arith.proofs.Bits.{widened}
-use Rattle.fixed.specs.declared.Pair.{Pair}
-use Rattle.fixed.specs.Start.{noPair}
+use Rattle.state.specs.declared.Pair.{Pair}
+use Rattle.state.specs.Start.{noPair}
 use Rattle.places.proofs.Pairs.{Put, put-none, put-next, put-all}
 use Rattle.places.proofs.Widths.{widens-32}
 use Rattle.places.proofs.states.write_line.Statement.{statement}

@@ -10,8 +10,8 @@ use mir.Syntax.{w32, w64}
 use mir.Val.{SFits}
 use borrow.Author.Needs.{needs}
 use Rattle.arith.proofs.Bits.{widened}
-use Rattle.fixed.specs.declared.Pending.{Pending}
-use Rattle.fixed.specs.Start.{noPending}
+use Rattle.registers.specs.declared.Pending.{Pending}
+use Rattle.state.specs.Start.{noPending}
 use Rattle.places.specs.States.{pendingNumbers}
 use Rattle.places.proofs.Pairs.{Put, put-none, put-next, put-all}
 use Rattle.places.proofs.Widths.{widens-32}

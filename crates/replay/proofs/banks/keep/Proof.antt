@@ -1,146 +1,68 @@
--- `replay::banks::keep` meets its contract: each turn stores one coefficient more, of as many as both the row and the third have.
-use Prim.Native.Nat.{ℕ, suc, _+_, _-_, _≤_, _<_, min}
-use mathlib.Core.Path.{_≡_, refl, sym, ap, _∙_}
+-- `replay::banks::keep` meets its contract: it keeps the first third's worth of the coefficients as a row, and the places that these fill are counted.
+use Prim.Native.Nat.{ℕ, _+_, _-_, min}
+use mathlib.Core.Path.{_≡_, sym, ap, _∙_}
 use mathlib.Core.List.{List, map}
 use native.Mathlib.Omega.{arith}
-use lib.IntN.{ℤ, pos}
-use lib.ListN.{length, getD, set, length-set, length-map, List·getD-map}
-use lib.Seq.{paste, paste-zero, paste-suc}
-use mir.Syntax.{w32, w64}
-use mir.Val.{toZ, ofZ}
+use lib.IntN.{ℤ}
+use lib.ListN.{length, take}
+use lib.Seq.{sets, length-take-le}
+use Rattle.arith.specs.Arith.{narrowI32}
+use Rattle.replay.proofs.Laws.{take-least}
 use borrow.Author.Needs.{needs}
-use Rattle.arith.specs.Arith.{wrapI32}
-use Rattle.arith.proofs.Bits.{held}
-use Rattle.replay.specs.Banks.{keptOf}
 use Rattle.replay.proofs.banks.keep.Statement.{statement}
 use Rattle.replay.proofs.banks.keep.Tie as tie
 
--- the room, with i of n coefficients stored
-record Kept (coefficients room₀ : List ℤ) (start n : ℕ) (room : List ℤ) (i : ℕ) : Type 0 where
-  are : room ≡ paste room₀ start (map wrapI32 coefficients) i
-  long : length room ≡ length room₀
-  many : n ≤ length coefficients
-  inside : start + n ≤ length room₀
-  within : i ≤ n
-
-kept-one : (coefficients room₀ : List ℤ) (start n : ℕ) (room : List ℤ) (i : ℕ) (v : ℤ) → v ≡ wrapI32 (getD coefficients i (pos 0)) → Kept coefficients room₀ start n room i → i < n
-    → Kept coefficients room₀ start n (set room (start + i) v) (i + 1)
-kept-one coefficients room₀ start n room i v is k h =
-    let cs = map wrapI32 coefficients in
-    let place : start + i < length room₀ = omega (arith, k .inside) in
-    let many : i < length cs = rw (length-map coefficients wrapI32) (omega (arith, k .many)) in
-    let value : v ≡ getD cs i (wrapI32 (pos 0)) = is ∙ sym (List·getD-map wrapI32 coefficients i (pos 0)) in
-    let next : i + 1 ≡ suc i = omega arith in
-    record {
-      are = ap (λ (r : List ℤ). set r (start + i) v) (k .are) ∙ (ap (λ (z : ℤ). set (paste room₀ start cs i) (start + i) z) value
-          ∙ (paste-suc room₀ start cs i (wrapI32 (pos 0)) place many ∙ ap (λ (j : ℕ). paste room₀ start cs j) (sym next)));
-      long = length-set room (start + i) v ∙ k .long;
-      many = k .many;
-      inside = k .inside;
-      within = omega arith;
-    }
-
-abbrev Inv-loop : tie.InvT-loop
-Inv-loop coefficients room₀ from start third n i₀ room i = Kept coefficients room₀ start n room i
-
-abbrev μ-loop : tie.MeasureT-loop
-μ-loop coefficients room₀ from start third n i₀ room i = n - i
-
-least-requires : tie.Need-least-requires Inv-loop μ-loop
+least-requires : tie.Need-least-requires
 least-requires c κs = search needs
 
-sub-least : tie.Need-sub-least Inv-loop μ-loop
-sub-least c = search needs
-
-least-requires-2 : tie.Need-least-requires-2 Inv-loop μ-loop
+least-requires-2 : tie.Need-least-requires-2
 least-requires-2 c κs = search needs
 
-least-requires-3 : tie.Need-least-requires-3 Inv-loop μ-loop
-least-requires-3 c κs = search needs
+slice-aggregate-keep-row : tie.Need-slice-aggregate-keep-row
+slice-aggregate-keep-row c = sym (length-take-le (c .before .before .least .result) (c .before .before .before .args .coefficients .now) (omega arith))
 
-loop-holds : tie.Need-loop-holds Inv-loop μ-loop
-loop-holds c =
-    record {
-      are = paste-zero (c .before .before .before .args .room .now) (c .before .before .least .result) (map wrapI32 (c .before .before .before .args .coefficients .now));
-      long = refl;
-      many = search needs;
-      inside = search needs;
-      within = search needs;
-    }
+keep-row-requires : tie.Need-keep-row-requires
+keep-row-requires c κs = search needs
 
-mul-wrap-i32 : tie.Need-mul-wrap-i32 Inv-loop μ-loop
-mul-wrap-i32 c = search needs
+sub-result : tie.Need-sub-result
+sub-result c = search needs
 
-shared-slice-copy-out-wrap-i32 : tie.Need-shared-slice-copy-out-wrap-i32 Inv-loop μ-loop
-shared-slice-copy-out-wrap-i32 c = search needs
-
-wrap-i32-requires : tie.Need-wrap-i32-requires Inv-loop μ-loop
-wrap-i32-requires c κs = search needs
-
-add-c : tie.Need-add-c Inv-loop μ-loop
-add-c c = search needs
-
-mul-c : tie.Need-mul-c Inv-loop μ-loop
-mul-c c = search needs
-
-slice-set-from-c : tie.Need-slice-set-from-c Inv-loop μ-loop
-slice-set-from-c c = search needs
-
-add-i : tie.Need-add-i Inv-loop μ-loop
-add-i c = search needs
-
-loop-less : tie.Need-loop-less Inv-loop μ-loop
-loop-less c = search needs
-
-loop-again : tie.Need-loop-again Inv-loop μ-loop
-loop-again c =
-    let a = c .before .before .before .before .before .before .before .args in
-    let l = c .before .before .before .loop in
-    let v = getD (a .coefficients .now) (l .i) (pos 0) in
-    let one : c .wrap-i32 .result ≡ wrapI32 v = simp (held w64 v (c .before .wrap-i32-arg .given)) at (c .wrap-i32 .ensures) in
-    let start = c .before .before .before .before .before .before .least .result in
-    let n = c .before .before .before .before .least3 .result in
-    kept-one (a .coefficients .now) (a .room .now) start n (l .room) (l .i) (toZ w32 (ofZ w32 (c .wrap-i32 .result))) (held w32 (c .wrap-i32 .result) (c .wrap-i32 .ok) ∙ one) (l .inv) (omega arith)
-
-same-length : tie.Need-same-length Inv-loop μ-loop
+same-length : tie.Need-same-length
 same-length c = search needs
 
-returns : tie.Need-returns Inv-loop μ-loop
+-- as many places are filled as there are coefficients, or as are left
+filled : (from most places : ℕ) → min (from + most) places - min from places ≡ min most (places - min from places)
+filled from most places = omega arith
+
+both : (n left : ℕ) → min (min 8192 n) left ≡ min n (min 8192 left)
+both n left = omega arith
+
+returns : tie.Need-returns
 returns c =
-    let a = c .before .before .before .before .before .args in
-    let cs = map wrapI32 (a .coefficients .now) in
-    let room = a .room .now in
-    let start = c .before .before .before .before .least in
-    let third = c .before .before .before .least2 in
-    let n = c .before .before .least3 in
-    let l = c .before .loop in
-    let kept : n .result ≡ keptOf (length (a .coefficients .now)) (length room) (a .from) =
-    n .ensures ∙ ap (min (length (a .coefficients .now))) (third .ensures ∙ ap (λ (s : ℕ). min 8192 (length room - s)) (start .ensures)) in
-    let all : l .i ≡ n .result = omega (arith, l .inv .within) in (
-      kept,
-      (l .inv .are ∙ (ap (λ (j : ℕ). paste room (start .result) cs j) (all ∙ kept)
-          ∙ ap (λ (s : ℕ). paste room s cs (keptOf (length (a .coefficients .now)) (length room) (a .from))) (start .ensures))),
+    let row = c .before .keep-row .ensures in
+    let start = c .before .before .before .before .least2 in
+    let most = c .before .before .before .before .before .least in
+    let a = c .before .before .before .before .before .before .args in
+    let cs = a .coefficients .now in
+    let places = length (a .room .now) in
+    let first : take (most .result) cs ≡ take 8192 cs = ap (λ (k : ℕ). take k cs) (most .ensures) ∙ take-least 8192 cs in
+    let long : length (take (most .result) cs) ≡ min 8192 (length cs) = length-take-le (most .result) cs (omega arith) ∙ most .ensures in (
+      ap (λ (r : ℕ). r - start .result) (row .0)
+          ∙ ap (λ (k : ℕ). min (a .from + k) places - start .result) long
+          ∙ ap (λ (s : ℕ). min (a .from + min 8192 (length cs)) places - s) (start .ensures)
+          ∙ filled (a .from) (min 8192 (length cs)) places
+          ∙ both (length cs) (places - min (a .from) places),
+      row .1 ∙ ap (λ (l : List ℤ). sets (a .room .now) (a .from) (map narrowI32 l)) first,
     )
 
 pub keep-spec : {M : Type 1} → statement M
 keep-spec =
     tie.close
     (tie.spec
-    Inv-loop
-    μ-loop
     least-requires
-    sub-least
     least-requires-2
-    least-requires-3
-    loop-holds
-    mul-wrap-i32
-    shared-slice-copy-out-wrap-i32
-    wrap-i32-requires
-    add-c
-    mul-c
-    slice-set-from-c
-    add-i
-    loop-less
-    loop-again
+    slice-aggregate-keep-row
+    keep-row-requires
+    sub-result
     same-length
     returns)

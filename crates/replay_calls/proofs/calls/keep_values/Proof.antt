@@ -18,14 +18,14 @@ least-requires c κs = search needs
 loop-holds : tie.Need-loop-holds Inv-loop μ-loop
 loop-holds c = search needs
 
-mul-sat16 : tie.Need-mul-sat16 Inv-loop μ-loop
-mul-sat16 c = search needs
+mul-narrow-i16 : tie.Need-mul-narrow-i16 Inv-loop μ-loop
+mul-narrow-i16 c = search needs
 
-shared-slice-copy-out-sat16 : tie.Need-shared-slice-copy-out-sat16 Inv-loop μ-loop
-shared-slice-copy-out-sat16 c = search needs
+shared-slice-copy-out-narrow-i16 : tie.Need-shared-slice-copy-out-narrow-i16 Inv-loop μ-loop
+shared-slice-copy-out-narrow-i16 c = search needs
 
-sat16-requires : tie.Need-sat16-requires Inv-loop μ-loop
-sat16-requires c κs = search needs
+narrow-i16-requires : tie.Need-narrow-i16-requires Inv-loop μ-loop
+narrow-i16-requires c κs = search needs
 
 mul-v : tie.Need-mul-v Inv-loop μ-loop
 mul-v c = search needs
@@ -56,9 +56,9 @@ keep-values-spec =
     μ-loop
     least-requires
     loop-holds
-    mul-sat16
-    shared-slice-copy-out-sat16
-    sat16-requires
+    mul-narrow-i16
+    shared-slice-copy-out-narrow-i16
+    narrow-i16-requires
     mul-v
     slice-set-from-v
     add-i

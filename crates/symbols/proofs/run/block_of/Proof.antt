@@ -45,6 +45,12 @@ same-length-2 c = search needs
 returns : tie.Need-returns Inv-loop μ-loop
 returns c = search needs
 
+array-copy-out-keep-pair : tie.Need-array-copy-out-keep-pair Inv-loop μ-loop
+array-copy-out-keep-pair c = search needs
+
+array-copy-out-keep-pair-2 : tie.Need-array-copy-out-keep-pair-2 Inv-loop μ-loop
+array-copy-out-keep-pair-2 c = search needs
+
 keep-pair-requires : tie.Need-keep-pair-requires Inv-loop μ-loop
 keep-pair-requires c κs = search needs
 
@@ -57,8 +63,8 @@ loop-less c = search needs
 loop-again : tie.Need-loop-again Inv-loop μ-loop
 loop-again c = search needs
 
-mul-t28 : tie.Need-mul-t28 Inv-loop μ-loop
-mul-t28 c = search needs
+mul-t33 : tie.Need-mul-t33 Inv-loop μ-loop
+mul-t33 c = search needs
 
 same-length-3 : tie.Need-same-length-3 Inv-loop μ-loop
 same-length-3 c = search needs
@@ -85,11 +91,13 @@ block-of-spec =
     same-length
     same-length-2
     returns
+    array-copy-out-keep-pair
+    array-copy-out-keep-pair-2
     keep-pair-requires
     add-n
     loop-less
     loop-again
-    mul-t28
+    mul-t33
     same-length-3
     same-length-4
     returns-2)

@@ -7,10 +7,10 @@ use Rattle.symbols.proofs.input.Input.next.Statement.{statement}
 use Rattle.symbols.proofs.input.Input.next.Tie as tie
 
 abbrev Inv-loop : tie.InvT-loop
-Inv-loop bytes₀ input₀ turns₀ bytes input turns = length bytes ≡ length bytes₀
+Inv-loop line bytes₀ input₀ turns₀ bytes input turns = length bytes ≡ length bytes₀
 
 abbrev μ-loop : tie.MeasureT-loop
-μ-loop bytes₀ input₀ turns₀ bytes input turns = turns
+μ-loop line bytes₀ input₀ turns₀ bytes input turns = turns
 
 loop-holds : tie.Need-loop-holds Inv-loop μ-loop
 loop-holds c = search needs
@@ -18,8 +18,8 @@ loop-holds c = search needs
 part-requires : tie.Need-part-requires Inv-loop μ-loop
 part-requires c κs = search needs
 
-line-end-requires : tie.Need-line-end-requires Inv-loop μ-loop
-line-end-requires c κs = search needs
+next-line-requires : tie.Need-next-line-requires Inv-loop μ-loop
+next-line-requires c κs = search needs
 
 enum-known-n : tie.Need-enum-known-n Inv-loop μ-loop
 enum-known-n c = search needs
@@ -45,8 +45,8 @@ same-length-2 c = search needs
 returns-2 : tie.Need-returns-2 Inv-loop μ-loop
 returns-2 c = search needs
 
-enum-told-2 : tie.Need-enum-told-2 Inv-loop μ-loop
-enum-told-2 c = search needs
+enum-known-number : tie.Need-enum-known-number Inv-loop μ-loop
+enum-known-number c = search needs
 
 same-length-3 : tie.Need-same-length-3 Inv-loop μ-loop
 same-length-3 c = search needs
@@ -54,11 +54,8 @@ same-length-3 c = search needs
 returns-3 : tie.Need-returns-3 Inv-loop μ-loop
 returns-3 c = search needs
 
-same-length-4 : tie.Need-same-length-4 Inv-loop μ-loop
-same-length-4 c = search needs
-
-returns-4 : tie.Need-returns-4 Inv-loop μ-loop
-returns-4 c = search needs
+enum-told-2 : tie.Need-enum-told-2 Inv-loop μ-loop
+enum-told-2 c = search needs
 
 more-requires : tie.Need-more-requires Inv-loop μ-loop
 more-requires c κs = search needs
@@ -69,11 +66,11 @@ enum-known-i c = search needs
 enum-told-3 : tie.Need-enum-told-3 Inv-loop μ-loop
 enum-told-3 c = search needs
 
-same-length-5 : tie.Need-same-length-5 Inv-loop μ-loop
-same-length-5 c = search needs
+same-length-4 : tie.Need-same-length-4 Inv-loop μ-loop
+same-length-4 c = search needs
 
-returns-5 : tie.Need-returns-5 Inv-loop μ-loop
-returns-5 c = search needs
+returns-4 : tie.Need-returns-4 Inv-loop μ-loop
+returns-4 c = search needs
 
 sub-turns : tie.Need-sub-turns Inv-loop μ-loop
 sub-turns c = search needs
@@ -84,11 +81,11 @@ loop-less c = search needs
 loop-again : tie.Need-loop-again Inv-loop μ-loop
 loop-again c = search needs
 
-same-length-6 : tie.Need-same-length-6 Inv-loop μ-loop
-same-length-6 c = search needs
+same-length-5 : tie.Need-same-length-5 Inv-loop μ-loop
+same-length-5 c = search needs
 
-returns-6 : tie.Need-returns-6 Inv-loop μ-loop
-returns-6 c = search needs
+returns-5 : tie.Need-returns-5 Inv-loop μ-loop
+returns-5 c = search needs
 
 pub next-spec : {M : Type 1} → statement M
 next-spec =
@@ -98,7 +95,7 @@ next-spec =
     μ-loop
     loop-holds
     part-requires
-    line-end-requires
+    next-line-requires
     enum-known-n
     wrapping-add-usize-requires
     wrapping-add-usize-requires-2
@@ -107,18 +104,17 @@ next-spec =
     enum-told
     same-length-2
     returns-2
-    enum-told-2
+    enum-known-number
     same-length-3
     returns-3
-    same-length-4
-    returns-4
+    enum-told-2
     more-requires
     enum-known-i
     enum-told-3
-    same-length-5
-    returns-5
+    same-length-4
+    returns-4
     sub-turns
     loop-less
     loop-again
-    same-length-6
-    returns-6)
+    same-length-5
+    returns-5)

@@ -45,9 +45,6 @@ slice-aggregate-take c = search needs
 take-requires : tie.Need-take-requires Inv-loop μ-loop
 take-requires c κs = search needs
 
-before-requires : tie.Need-before-requires Inv-loop μ-loop
-before-requires c κs = search needs
-
 sub-keep-row : tie.Need-sub-keep-row Inv-loop μ-loop
 sub-keep-row c = search needs
 
@@ -103,7 +100,6 @@ with-bank-spec =
     part-take-end
     slice-aggregate-take
     take-requires
-    before-requires
     sub-keep-row
     part-keep-row-start
     part-keep-row-end

@@ -1,0 +1,192 @@
+-- `fixed::run` meets its contract: a block without a fault has an accepted sheet, a state that it can go on from, and room for its symbols and samples.
+-- The arrays stand for the state given when the block begins and for the state after its samples when it ends; put together, they are that state.
+use Prim.Native.Nat.{ℕ, _*_}
+use mathlib.Core.Path.{_≡_, refl, sym, ap, _∙_}
+use mathlib.Core.List.{List, _++_}
+use native.Mathlib.Omega.{arith}
+use lib.ListN.{length, drop}
+use lib.IntN.{ℤ}
+use borrow.Author.Needs.{needs}
+use Rattle.params.specs.Refusal.{nothing}
+use Rattle.params.specs.Judge.{Sheet, sheetOf}
+use Rattle.state.specs.declared.Position.{Position}
+use Rattle.state.specs.declared.Frontend.{Frontend}
+use Rattle.fixed.specs.Sample.{after, emitted}
+use Rattle.fixed.specs.Block.{Block, pairsOf, flattened, accepted}
+use Rattle.fixed.specs.Inside.{kept, Stands}
+use Rattle.state.proofs.Going.{going}
+use Rattle.state.proofs.Verdicts.{Faultless, faultless, outline-good}
+use Rattle.fixed.proofs.Unpacked.{after-rest, line-packed, queue-packed, put-together}
+use Rattle.fixed.proofs.run.Statement.{statement}
+use Rattle.fixed.proofs.run.Tie as tie
+
+abbrev sheet : tie.Start → Sheet
+sheet s = sheetOf (s .args .p) (s .args .h .now) (s .args .g .now) (s .args .k .now)
+
+ok : (s : tie.Start) → Faultless (sheet s) (s .args .f) (length (s .args .values .now)) (length (s .args .out .now))
+ok s = faultless (sheet s) (s .args .f) (length (s .args .values .now)) (length (s .args .out .now)) (s .pre)
+
+cast-taps : tie.Need-cast-taps
+cast-taps c = search needs
+
+slice-aggregate-unpack-line : tie.Need-slice-aggregate-unpack-line
+slice-aggregate-unpack-line c = search needs
+
+slice-aggregate-unpack-line-2 : tie.Need-slice-aggregate-unpack-line-2
+slice-aggregate-unpack-line-2 c = search needs
+
+unpack-line-requires : tie.Need-unpack-line-requires
+unpack-line-requires c κs = (ok (c .before .before .before .before .before) .sheet .lengths .good .most, (refl, refl))
+
+slice-aggregate-unpack-pending : tie.Need-slice-aggregate-unpack-pending
+slice-aggregate-unpack-pending c = search needs
+
+slice-aggregate-unpack-pending-2 : tie.Need-slice-aggregate-unpack-pending-2
+slice-aggregate-unpack-pending-2 c = search needs
+
+unpack-pending-requires : tie.Need-unpack-pending-requires
+unpack-pending-requires c κs = search needs
+
+slice-aggregate-run : tie.Need-slice-aggregate-run
+slice-aggregate-run c = search needs
+
+slice-aggregate-run-2 : tie.Need-slice-aggregate-run-2
+slice-aggregate-run-2 c = search needs
+
+slice-aggregate-run-3 : tie.Need-slice-aggregate-run-3
+slice-aggregate-run-3 c = search needs
+
+slice-aggregate-run-4 : tie.Need-slice-aggregate-run-4
+slice-aggregate-run-4 c = search needs
+
+position-requires : tie.Need-position-requires
+position-requires c κs = search needs
+
+-- ---- from the arrays taken out of the state to those lent to the block
+
+abbrev line-out : tie.After-position → tie.After-unpack-line
+line-out c = c .before .before .before .before .before .before .before .before .before .before .before .before .before .before
+
+abbrev queue-out : tie.After-position → tie.After-unpack-pending
+queue-out c = c .before .before .before .before .before .before .before .before .before
+
+abbrev start : tie.After-position → tie.Start
+start c = line-out c .before .before .before .before .before .before
+
+begins : (c : tie.After-position)
+    → let l = line-out c .unpack-line .last .1 .1 in
+    let q = queue-out c .unpack-pending .last .1 in
+    Stands (start c .args .p .taps) (kept (l .0) (l .1 .0) (q .0) (q .1 .0) (start c .args .f .registers) (c .position .result)) (start c .args .f)
+begins c =
+    let w = sym (c .position .ensures) in
+    record {
+      line = line-out c .unpack-line .ensures;
+      queue = queue-out c .unpack-pending .ensures;
+      registers = refl;
+      head = ap (λ (x : Position). x .head) w;
+      oldest = ap (λ (x : Position). x .oldest) w;
+      waiting = ap (λ (x : Position). x .waiting) w;
+      samples = ap (λ (x : Position). x .samples) w;
+    }
+
+run-requires : tie.Need-run-requires
+run-requires c κs =
+    let s = start c in
+    let f = ok s in
+    let b = begins c in (
+      record {
+        accepted = f .judged-so;
+        good = outline-good (s .args .p) (s .args .f) (c .position .ensures) ∙ f .good;
+        long-i = b .line .in-i .long;
+        long-q = b .line .in-q .long;
+        long-e = b .queue .long-e;
+        long-err = b .queue .long-err;
+      },
+      (f .sizes .long, omega (arith, f .sizes .few, b .samples)),
+    )
+
+-- ---- what the block leaves
+
+abbrev ending : (c : tie.After-run) → Frontend
+ending c = let s = start (c .before) in after (sheet s) (s .args .f) (pairsOf (s .args .values .now))
+
+ends : (c : tie.After-run)
+    → let l = c .run .last .1 .1 .1 .1 .1 .1 in
+    Stands (start (c .before) .args .p .taps)
+    (kept (l .0) (l .1 .0) (l .1 .1 .0) (l .1 .1 .1 .0) (c .run .result .registers) (c .run .result .position)) (ending c)
+ends c = c .run .ensures .state (start (c .before) .args .f) (begins (c .before))
+
+slice-aggregate-pack-line : tie.Need-slice-aggregate-pack-line
+slice-aggregate-pack-line c = search needs
+
+slice-aggregate-pack-line-2 : tie.Need-slice-aggregate-pack-line-2
+slice-aggregate-pack-line-2 c = search needs
+
+pack-line-requires : tie.Need-pack-line-requires
+pack-line-requires c κs =
+    let r = c .before .before .before .before .before .before .before .before .before in
+    (ok (start (r .before)) .sheet .lengths .good .most, (ends r .line .in-i .long, ends r .line .in-q .long))
+
+slice-aggregate-pack-pending : tie.Need-slice-aggregate-pack-pending
+slice-aggregate-pack-pending c = search needs
+
+slice-aggregate-pack-pending-2 : tie.Need-slice-aggregate-pack-pending-2
+slice-aggregate-pack-pending-2 c = search needs
+
+pack-pending-requires : tie.Need-pack-pending-requires
+pack-pending-requires c κs = search needs
+
+same-length : tie.Need-same-length
+same-length c = search needs
+
+-- a block's answer, from the state that it leaves and the symbols that it wrote
+answer : (s : Sheet) (f : Frontend) (values out : List ℤ) {new : Frontend} {n : ℕ} {o : List ℤ} → new ≡ after s f (pairsOf values)
+    → n ≡ length (emitted s f (pairsOf values)) → o ≡ flattened (emitted s f (pairsOf values)) ++ drop (20 * n) out
+    → _≡_ {A = Block} (record { refused = nothing; state = new; count = n; output = o }) (accepted s f values out)
+unfolding accepted
+answer s f values out state count output = λ i. record {
+  refused = nothing;
+  state = state i;
+  count = count i;
+  output = (output ∙ ap (λ (m : ℕ). flattened (emitted s f (pairsOf values)) ++ drop (20 * m) out) count) i;
+}
+
+returns : tie.Need-returns
+returns c =
+    let l = c .before .before .before in
+    let r = l .before .before .before .before .before .before .before .before .before .before in
+    let s = start (r .before) in
+    let a = s .args in
+    let begin = begins (r .before) in
+    let head = going (a .p) (a .f) (ok s .good) .head in
+    answer (sheet s) (a .f) (a .values .now) (a .out .now) {o = r .run .last .1 .1 .1 .1 .1 .0}
+    (put-together (ends r)
+    (line-packed (a .f .line) (ends r .line) (λ n h. after-rest (sheet s) (a .f) (pairsOf (a .values .now)) n head h) (l .pack-line .ensures))
+    (queue-packed (ends r .queue) (c .pack-pending .ensures)))
+    (r .run .ensures .counted (a .f) begin) (r .run .ensures .written (a .f) begin)
+
+pub run-spec : {M : Type 1} → statement M
+run-spec =
+    tie.close
+    (tie.spec
+    cast-taps
+    slice-aggregate-unpack-line
+    slice-aggregate-unpack-line-2
+    unpack-line-requires
+    slice-aggregate-unpack-pending
+    slice-aggregate-unpack-pending-2
+    unpack-pending-requires
+    slice-aggregate-run
+    slice-aggregate-run-2
+    slice-aggregate-run-3
+    slice-aggregate-run-4
+    position-requires
+    run-requires
+    slice-aggregate-pack-line
+    slice-aggregate-pack-line-2
+    pack-line-requires
+    slice-aggregate-pack-pending
+    slice-aggregate-pack-pending-2
+    pack-pending-requires
+    same-length
+    returns)

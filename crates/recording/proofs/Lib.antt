@@ -1,0 +1,2 @@
+-- The laws of a row that is put into a bank.
+mod Rows

@@ -1,0 +1,115 @@
+// A state as 186 numbers: nco, t_acc, v, period, gain_acc, symbols, head, oldest, waiting, samples; the line's 64 pairs i, q; the 24 pairs e, err of the
+// waiting errors. Both as they are stored.
+use registers::Pending;
+use registers::Registers;
+use replay::rows;
+use state::Frontend;
+use state::Pair;
+ghost use Prim.Native.Nat.{_<_};
+
+fn registers_of(numbers: &[i64]) -> Registers {
+    Registers {
+        nco: arith::wrap_u32(rows::at(numbers, 0)),
+        t_acc: rows::at(numbers, 1),
+        v: rows::at(numbers, 2),
+        period: arith::wrap_u32(rows::at(numbers, 3)),
+        gain_acc: arith::wrap_u32(rows::at(numbers, 4)),
+        symbols: rows::u64_of(rows::at(numbers, 5)),
+    }
+}
+
+fn line_of(numbers: &[i64]) -> [Pair; 64] {
+    let none = Pair { i: 0, q: 0 };
+    let mut line = [none; 64];
+    let mut n: usize = 0;
+    while n < 64 {
+        line[n] = Pair {
+            i: arith::narrow_i32(rows::at(numbers, 2 * n)),
+            q: arith::narrow_i32(rows::at(numbers, 2 * n + 1)),
+        };
+        n += 1;
+    }
+    line
+}
+
+fn pending_of(numbers: &[i64]) -> [Pending; 24] {
+    let none = Pending { e: 0, err: 0 };
+    let mut pending = [none; 24];
+    let mut n: usize = 0;
+    while n < 24 {
+        pending[n] = Pending {
+            e: arith::narrow_i32(rows::at(numbers, 2 * n)),
+            err: arith::narrow_i32(rows::at(numbers, 2 * n + 1)),
+        };
+        n += 1;
+    }
+    pending
+}
+
+// The state that these numbers are.
+pub(crate) fn of_numbers(numbers: &[i64]) -> Frontend {
+    Frontend {
+        registers: registers_of(numbers),
+        line: line_of(rows::rest(numbers, 10)),
+        head: rows::u64_of(rows::at(numbers, 6)) as usize,
+        pending: pending_of(rows::rest(numbers, 138)),
+        oldest: rows::u64_of(rows::at(numbers, 7)) as usize,
+        waiting: rows::u64_of(rows::at(numbers, 8)) as usize,
+        samples: rows::u64_of(rows::at(numbers, 9)),
+    }
+}
+
+fn are_registers(r: Registers, numbers: &[i64]) -> bool {
+    rows::at(numbers, 0) == r.nco as i64
+        && rows::at(numbers, 1) == r.t_acc
+        && rows::at(numbers, 2) == r.v
+        && rows::at(numbers, 3) == r.period as i64
+        && rows::at(numbers, 4) == r.gain_acc as i64
+        && rows::at(numbers, 5) == rows::i64_of(r.symbols)
+}
+
+// Whether the numbers have these two as their n-th pair.
+fn has_pair(numbers: &[i64], n: usize, a: i32, b: i32) -> bool
+    requires { ⌜ n < 64 ⌝ }
+{
+    rows::at(numbers, 2 * n) == rows::wide(a) && rows::at(numbers, 2 * n + 1) == rows::wide(b)
+}
+
+fn is_line(line: [Pair; 64], numbers: &[i64]) -> bool {
+    let mut n: usize = 0;
+    while n < 64 {
+        let pair = line[n];
+        if !has_pair(numbers, n, pair.i, pair.q) {
+            return false;
+        }
+        n += 1;
+    }
+    true
+}
+
+fn is_pending(pending: [Pending; 24], numbers: &[i64]) -> bool {
+    let mut n: usize = 0;
+    while n < 24 {
+        let errors = pending[n];
+        if !has_pair(numbers, n, errors.e, errors.err) {
+            return false;
+        }
+        n += 1;
+    }
+    true
+}
+
+// Whether these are the numbers of a state, no fewer and no more.
+pub(crate) fn is(state: Frontend, numbers: &[i64]) -> bool {
+    let registers = state.registers;
+    let line = state.line;
+    let pending = state.pending;
+    numbers.len() == 186
+        && are_registers(registers, numbers)
+        && rows::at(numbers, 6) == rows::i64_of(state.head as u64)
+        && rows::at(numbers, 7) == rows::i64_of(state.oldest as u64)
+        && rows::at(numbers, 8) == rows::i64_of(state.waiting as u64)
+        && rows::at(numbers, 9) == rows::i64_of(state.samples)
+        && is_line(line, rows::rest(numbers, 10))
+        && is_pending(pending, rows::rest(numbers, 138))
+}

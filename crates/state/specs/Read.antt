@@ -1,0 +1,27 @@
+-- Reading a state: period, gain and symbol count.
+-- (Document 01, 'A block': reading.)
+use Prim.Native.Nat.{ℕ, _/_}
+use mathlib.Core.Bool.{cond}
+use lib.Dec.{eqb}
+use Rattle.params.specs.Refusal.{Refusal, nothing}
+use Rattle.params.specs.Judge.{Sheet, firstOf}
+use Rattle.state.specs.declared.Frontend.{Frontend}
+use Rattle.state.specs.declared.Reading.{Reading}
+use Rattle.state.specs.Check.{stateFaults, frontendRefusal}
+
+pub record Read : Type 0 where
+  pub refused : Refusal
+  pub period : ℕ
+  pub gain : ℕ
+  pub symbols : ℕ
+
+-- Period, gain and symbol count of a state; 1 to 9 refuse it, with zeros.
+unfoldable pub readOf : Sheet → Frontend → Read
+readOf s f =
+    let r : Refusal = firstOf (stateFaults s f) in
+    cond (eqb (r .number) 0)
+    (record { refused = nothing; period = f .registers .period; gain = f .registers .«gain_acc» / 256; symbols = f .registers .symbols })
+    (record { refused = r; period = 0; gain = 0; symbols = 0 })
+
+abbrev pub reading : Reading → Read
+reading a = record { refused = frontendRefusal (a .verdict); period = a .period; gain = a .gain; symbols = a .symbols }

@@ -1,0 +1,52 @@
+-- The state before the first sample, and starting.
+use Prim.Native.Nat.{ℕ}
+use mathlib.Core.Bool.{cond}
+use lib.Dec.{eqb}
+use lib.ListN.{replicate}
+use lib.IntN.{pos}
+use Rattle.params.specs.declared.Params.{Params}
+use Rattle.params.specs.Refusal.{Refusal, verdictRefusal}
+use Rattle.params.specs.Judge.{Sheet, judged}
+use Rattle.registers.specs.declared.Pending.{Pending}
+use Rattle.state.specs.declared.Pair.{Pair}
+use Rattle.state.specs.declared.Frontend.{Frontend}
+use Rattle.state.specs.declared.Started.{Started}
+
+abbrev pub noPair : Pair
+noPair = record { i = pos 0; q = pos 0 }
+
+abbrev pub noPending : Pending
+noPending = record { e = pos 0; err = pos 0 }
+
+-- A state at rest with this period and this gain accumulator: nothing in the line, nothing waiting, nothing counted.
+abbrev pub atRest : ℕ → ℕ → Frontend
+atRest period gain = record {
+  registers = record { nco = 0; «t_acc» = pos 0; v = pos 0; period = period; «gain_acc» = gain; symbols = 0 };
+  line = replicate 64 noPair;
+  head = 0;
+  pending = replicate 24 noPending;
+  oldest = 0;
+  waiting = 0;
+  samples = 0;
+}
+
+-- The fresh state: at rest, with the sheet's nominal period and first gain.
+-- (Document 01, 'A sample's way': fresh state.)
+unfoldable pub fresh : Params → Frontend
+fresh p = atRest (p .«period_nominal») (p .«agc_init»)
+
+-- A refusal, or nothing, with a state.
+pub record Start : Type 0 where
+  pub refused : Refusal
+  pub state : Frontend
+
+-- Starting: the fresh state where the sheet is accepted, and zeros throughout where it is refused.
+-- (Document 01, 'A sample's way': starting.)
+unfoldable pub startOf : Sheet → Start
+startOf s =
+    let r : Refusal = judged s in
+    record { refused = r; state = cond (eqb (r .number) 0) (fresh (s .params)) (atRest 0 0) }
+
+-- What the code's answer says in these terms.
+abbrev pub started : Started → Start
+started a = record { refused = verdictRefusal (a .verdict); state = a .state }

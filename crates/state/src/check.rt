@@ -1,0 +1,100 @@
+// What a call refuses of a state, and of a block's sizes: 1 to 12, in this order.
+use crate::Frontend;
+use crate::FrontendVerdict;
+use crate::Position;
+use params::Params;
+use params::Verdict;
+use registers::LOOP_DELAY;
+use registers::Registers;
+ghost use mathlib.Core.Path.{_≡_};
+ghost use Rattle.params.specs.Judge.{sheetOf, firstOf};
+ghost use Rattle.state.specs.Check.{outline, goodState, stateFaults, sizeFaults, blockFaults, frontendRefusal};
+
+// 9: whether a block can go on from these registers and positions.
+fn is_good_state(p: Params, r: Registers, w: Position) -> bool
+    ensures { λ b. ⌜ b ≡ goodState p (outline r w) ⌝ }
+{
+    let end = (p.integrator_max as i64) * 65536;
+    let waiting = if r.symbols < LOOP_DELAY as u64 {
+        r.symbols as usize
+    } else {
+        LOOP_DELAY
+    };
+    w.head < p.taps as usize
+        && 0 <= r.t_acc
+        && r.t_acc < 0x400_0000
+        && 0 - end <= r.v
+        && r.v <= end
+        && p.period_min <= r.period
+        && r.period <= p.period_max
+        && r.gain_acc <= 0xff_ffff
+        && w.waiting == waiting
+        && w.oldest <= 23
+        && r.symbols <= w.samples
+}
+
+impl Frontend {
+    // Where the state stands.
+    pub fn position(self) -> Position
+        ensures { λ r. ⌜ r ≡ record { head = self .head; oldest = self .oldest; waiting = self .waiting; samples = self .samples } ⌝ }
+    {
+        Position {
+            head: self.head,
+            oldest: self.oldest,
+            waiting: self.waiting,
+            samples: self.samples,
+        }
+    }
+
+    // 1 to 9.
+    pub(crate) fn check_state(self, p: Params, h: &[i32], g: &[i32], k: &[i32]) -> FrontendVerdict
+        ensures { λ r. ⌜ frontendRefusal r ≡ firstOf (stateFaults (sheetOf p (now (h .entry)) (now (g .entry)) (now (k .entry))) self) ⌝ }
+    {
+        let verdict = p.validate(h, g, k);
+        if let Verdict::Refused(e) = verdict {
+            return FrontendVerdict::Params(e);
+        }
+        let registers = self.registers;
+        if !is_good_state(p, registers, self.position()) {
+            return FrontendVerdict::State;
+        }
+        FrontendVerdict::Accepted
+    }
+
+    // 1 to 12, of a block with so many sample values and output places.
+    pub fn check_block(
+        self,
+        p: Params,
+        h: &[i32],
+        g: &[i32],
+        k: &[i32],
+        values: usize,
+        places: usize,
+    ) -> FrontendVerdict
+        ensures { λ r. ⌜
+            frontendRefusal r ≡ firstOf (blockFaults (sheetOf p (now (h .entry)) (now (g .entry)) (now (k .entry))) self values places) ⌝ }
+    {
+        let verdict = self.check_state(p, h, g, k);
+        match verdict {
+            FrontendVerdict::Accepted => self.check_sizes(values, places),
+            _ => verdict,
+        }
+    }
+
+    // 10 to 12. The places are counted in symbols and the samples by what is left of them, so that neither test can overflow.
+    fn check_sizes(self, values: usize, places: usize) -> FrontendVerdict
+        ensures { λ r. ⌜ frontendRefusal r ≡ firstOf (sizeFaults self values places) ⌝ }
+    {
+        if values % 2 != 0 {
+            return FrontendVerdict::OddInput;
+        }
+        if places / 20 < values / 2 {
+            return FrontendVerdict::ShortOutput;
+        }
+        let room = 0x7fff_ffff_ffff_ffff - (values / 2) as u64;
+        if room < self.samples {
+            return FrontendVerdict::TooManySamples;
+        }
+        FrontendVerdict::Accepted
+    }
+}

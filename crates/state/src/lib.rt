@@ -1,0 +1,79 @@
+// The state: all that is kept between samples, how it begins, what a call refuses of it, and what can be read of it.
+mod check;
+mod read;
+mod start;
+
+use params::ParamError;
+use params::Verdict;
+use registers::Pending;
+use registers::Registers;
+ghost use mathlib.Core.Path.{_≡_};
+ghost use Rattle.state.specs.Check.{frontendRefusal};
+
+// A sample, as it is mixed and kept in the line: in phase and in quadrature.
+pub struct Pair {
+    pub i: i32,
+    pub q: i32,
+}
+
+// All that is kept between samples (document 01: the state).
+pub struct Frontend {
+    pub registers: Registers,
+    // The last `taps` mixed samples, and the newest's position, which falls modulo taps (document 01: the line).
+    pub line: [Pair; 64],
+    pub head: usize,
+    // The waiting errors, a ring of 24: the oldest's position and how many wait.
+    pub pending: [Pending; 24],
+    pub oldest: usize,
+    pub waiting: usize,
+    // Samples taken so far.
+    pub samples: u64,
+}
+
+// Where a state stands: in the line, in the queue of errors and in the recording.
+pub struct Position {
+    pub head: usize,
+    pub oldest: usize,
+    pub waiting: usize,
+    pub samples: u64,
+}
+
+// What a call on a state answers beside its result (document 01: refusals 1 to 12).
+pub enum FrontendVerdict {
+    Accepted,
+    Params(ParamError),
+    State,
+    OddInput,
+    ShortOutput,
+    TooManySamples,
+}
+
+// Its number, since text and C take nothing else of it; 0 where nothing is refused.
+impl FrontendVerdict {
+    pub fn number(self) -> u32
+        ensures { λ r. ⌜ r ≡ frontendRefusal self .number ⌝ }
+    {
+        match self {
+            FrontendVerdict::Accepted => 0,
+            FrontendVerdict::Params(e) => e.number(),
+            FrontendVerdict::State => 9,
+            FrontendVerdict::OddInput => 10,
+            FrontendVerdict::ShortOutput => 11,
+            FrontendVerdict::TooManySamples => 12,
+        }
+    }
+}
+
+// What starting answers: a fresh state, or one of zeros where the sheet is refused.
+pub struct Started {
+    pub verdict: Verdict,
+    pub state: Frontend,
+}
+
+// What reading a state answers; zeros where it is refused.
+pub struct Reading {
+    pub verdict: FrontendVerdict,
+    pub period: u32,
+    pub gain: u16,
+    pub symbols: u64,
+}

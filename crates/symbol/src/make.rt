@@ -1,0 +1,120 @@
+// What a symbol is made of, from the filters' sums to its errors (document 01: "A symbol", from its outputs to its errors).
+use crate::Output;
+use crate::Sums;
+use crate::Symbol;
+use params::Params;
+ghost use mathlib.Core.Path.{_≡_};
+ghost use Prim.Native.Nat.{_-_, min};
+ghost use lib.IntN.{pos, _*ℤ_};
+ghost use Rattle.arith.specs.Arith.{roundShift, sat16Z};
+ghost use Rattle.symbol.specs.Make.{outputOf, amplified, quantised, timingError, gainError, symbolFrom};
+
+// A filter's sums as an output.
+fn output_of(s: Sums) -> Output
+    ensures { λ r. ⌜ r ≡ outputOf s ⌝ }
+{
+    Output {
+        i: arith::sat16(arith::round_shift(s.i, 14)),
+        q: arith::sat16(arith::round_shift(s.q, 14)),
+    }
+}
+
+// A component times the gain. The product is far from the ends of 64 bits, so half of what is shifted out is added to it first.
+fn times(gain: u16, x: i16) -> i16
+    ensures { λ r. ⌜ r ≡ sat16Z (roundShift (x *ℤ pos gain) 10) ⌝ }
+{
+    arith::sat16(((x as i64) * (gain as i64) + 512) >> 10)
+}
+
+// An output times the gain.
+fn amplify(gain: u16, x: Output) -> Output
+    ensures { λ r. ⌜ r ≡ amplified gain x ⌝ }
+{
+    Output {
+        i: times(gain, x.i),
+        q: times(gain, x.q),
+    }
+}
+
+// The bits of an output component below its sign. An amplified output has 16 bits, so more than these make no difference.
+fn below_sign(bits: u8) -> u32
+    ensures { λ r. ⌜ r ≡ min (bits - 1) 15 ⌝ }
+{
+    if bits < 1 {
+        return 0;
+    }
+    if 16 < bits {
+        return 15;
+    }
+    bits as u32 - 1
+}
+
+// A component at the width of the output.
+fn quantise(p: Params, v: i16) -> i16
+    ensures { λ r. ⌜ r ≡ quantised p v ⌝ }
+{
+    let end: i64 = 1 << below_sign(p.bits);
+    arith::clamp(
+        arith::round_shift(v as i64, p.q_shift as u32),
+        0 - end,
+        end - 1,
+    ) as i16
+}
+
+fn timing_error(p: Params, z: Output, dz: Output) -> i32
+    ensures { λ r. ⌜ r ≡ timingError p z dz ⌝ }
+{
+    let product = (z.i as i64) * (dz.i as i64) + (z.q as i64) * (dz.q as i64);
+    arith::clamp(
+        arith::shift_right(product, p.ted_shift as u32),
+        -8388607,
+        8388607,
+    ) as i32
+}
+
+fn agc_error(p: Params, zk: Output) -> i32
+    ensures { λ r. ⌜ r ≡ gainError p zk ⌝ }
+{
+    let power = (zk.i as i64) * (zk.i as i64) + (zk.q as i64) * (zk.q as i64);
+    arith::wrap_i32(p.agc_target as i64 - (power >> 12))
+}
+
+impl Symbol {
+    // The symbol of this gain and period, at this sample and phase, of the sums of h, g and k.
+    pub fn make(
+        p: Params,
+        gain: u16,
+        period: u32,
+        sample: u64,
+        phase: u8,
+        sums: [Sums; 3],
+    ) -> Symbol
+        ensures { λ y. ⌜ y ≡ symbolFrom p gain period sample phase sums ⌝ }
+    {
+        let y = output_of(sums[0]);
+        let dy = output_of(sums[1]);
+        let yk = output_of(sums[2]);
+        let z = amplify(gain, y);
+        let dz = amplify(gain, dy);
+        let zk = amplify(gain, yk);
+        let q = Output {
+            i: quantise(p, zk.i),
+            q: quantise(p, zk.q),
+        };
+        Symbol {
+            sample,
+            phase,
+            y,
+            dy,
+            yk,
+            gain,
+            period,
+            z,
+            dz,
+            zk,
+            q,
+            e: timing_error(p, z, dz),
+            err: agc_error(p, zk),
+        }
+    }
+}
