@@ -13,6 +13,7 @@ use mir.Facts.{toZ-ofZ}
 use borrow.Author.Tests.{eq-eqb, ne-eqb, eqb-true, eqb-false}
 use Rattle.arith.proofs.Magnitude.{abs-neg}
 use Rattle.arith.proofs.Bits.{sfit, whole}
+use Rattle.params.specs.Refusal.{Refusal}
 use Rattle.params.specs.Judge.{Sheet, firstOf, judged}
 use Rattle.params.proofs.Faults.{first-none}
 use Rattle.state.specs.declared.Pair.{Pair}
@@ -109,21 +110,24 @@ pub record Left (b : Block) : Type 0 where
   pub counted : b .count ≤ 9223372036854775807
 
 module _ (s : Sheet) (f : Frontend) (values out : List ℤ) where
+  abbrev faulty : List Refusal
+  faulty = blockFaults s f (length values) (length out)
+
   -- a number other than 0: nothing was written
   pub untouched : (blockOf s f values out .refused .number ≡ 0 → ⊥) → blockOf s f values out .output ≡ out
   unfolding blockOf accepted
-  untouched h = go (eqb (firstOf (blockFaults s f values out) .number) 0) refl
+  untouched h = go (eqb (firstOf faulty .number) 0) refl
     where
-      go : (b : Bool) → eqb (firstOf (blockFaults s f values out) .number) 0 ≡ b → blockOf s f values out .output ≡ out
+      go : (b : Bool) → eqb (firstOf faulty .number) 0 ≡ b → blockOf s f values out .output ≡ out
       go true e = absurd (h (rw e refl))
       go false e = rw e refl
 
-  no-faults : blockOf s f values out .refused .number ≡ 0 → blockFaults s f values out ≡ []
+  no-faults : blockOf s f values out .refused .number ≡ 0 → faulty ≡ []
   unfolding blockOf
-  no-faults h = go (eqb (firstOf (blockFaults s f values out) .number) 0) refl
+  no-faults h = go (eqb (firstOf faulty .number) 0) refl
     where
-      go : (b : Bool) → eqb (firstOf (blockFaults s f values out) .number) 0 ≡ b → blockFaults s f values out ≡ []
-      go true e = first-none (blockFaults s f values out) (block-numbered s f values out) (eqb-true _ 0 e)
+      go : (b : Bool) → eqb (firstOf faulty .number) 0 ≡ b → faulty ≡ []
+      go true e = first-none faulty (block-numbered s f (length values) (length out)) (eqb-true _ 0 e)
       go false e = absurd (eqb-false _ 0 e (rw e at h))
 
   ran : blockOf s f values out .refused .number ≡ 0 → blockOf s f values out ≡ accepted s f values out
@@ -133,7 +137,7 @@ module _ (s : Sheet) (f : Frontend) (values out : List ℤ) where
   pub left : blockOf s f values out .refused .number ≡ 0 → Left (blockOf s f values out)
   unfolding accepted
   left h =
-      let g : Faultless s f (length values) (length out) = faultless s f values out (no-faults h) in
+      let g : Faultless s f (length values) (length out) = faultless s f (length values) (length out) (no-faults h) in
       let xs : List Pair = pairsOf values in
       let to : Going (s .params) (after s f xs) = run-going s (g .sheet) f xs (going (s .params) f (g .good)) in
       let samples : after s f xs .samples ≤ 9223372036854775807 = omega (arith, run-samples s f xs, pairs-long values, g .sizes .few) in
