@@ -1,6 +1,5 @@
 // A state as 186 places: nco, t_acc, v, period, gain_acc, symbols, head, oldest, waiting, samples; then the line's 64 pairs i, q, and the 24 pairs
 // e, err of the waiting errors, both as they are stored.
-use crate::ReadState;
 use crate::numbers;
 use registers::Pending;
 use registers::Registers;
@@ -116,27 +115,21 @@ fn zeros() -> Frontend
     }
 }
 
-// The state of these places, where they are those of one.
-pub fn read_state(state: &[i64]) -> ReadState
+// The state of these places. Where they are those of no state it is zeros throughout, and 9 refuses these: no sheet has a period of 0.
+pub fn read_state(state: &[i64]) -> Frontend
     ensures { λ r. ⌜ r ≡ readState (now (state .entry)) ⌝ }
 {
     if !fits(state) {
-        return ReadState {
-            fits: false,
-            state: zeros(),
-        };
+        return zeros();
     }
-    ReadState {
-        fits: true,
-        state: Frontend {
-            registers: registers_of(state),
-            line: line_of(state),
-            head: numbers::count_at(state, 6) as usize,
-            pending: pending_of(state),
-            oldest: numbers::count_at(state, 7) as usize,
-            waiting: numbers::count_at(state, 8) as usize,
-            samples: numbers::count_at(state, 9),
-        },
+    Frontend {
+        registers: registers_of(state),
+        line: line_of(state),
+        head: numbers::count_at(state, 6) as usize,
+        pending: pending_of(state),
+        oldest: numbers::count_at(state, 7) as usize,
+        waiting: numbers::count_at(state, 8) as usize,
+        samples: numbers::count_at(state, 9),
     }
 }
 

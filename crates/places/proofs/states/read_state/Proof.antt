@@ -1,14 +1,13 @@
 -- `places::states::read_state` meets its contract: it reads just the places that fit, as the definition does. The state's parts are read one by one, and
 -- the counts stand at places 6 to 9.
 use Prim.Native.Nat.{ℕ, _<_}
-use mathlib.Core.Path.{_≡_, sym, ap, _∙_}
+use mathlib.Core.Path.{_≡_, sym, _∙_}
 use mathlib.Core.Bool.{true, false}
 use lib.Dec.{lit<}
 use lib.ListN.{getD}
 use borrow.Author.Needs.{needs}
 use borrow.Author.Tests.{not-true, not-false}
 use Rattle.kinds.specs.Kinds.{KindAt}
-use Rattle.state.specs.declared.Frontend.{Frontend}
 use Rattle.places.specs.States.{stateFits, stateOf, readState}
 use Rattle.places.proofs.Readable.{firstKinds, state-at}
 use Rattle.places.proofs.states.read_state.Statement.{statement}
@@ -26,7 +25,7 @@ returns c =
     let tested = c .before .before in
     let unfit : stateFits (tested .before .args .state .now) ≡ false =
     sym (tested .fits2 .ensures) ∙ not-true (tested .fits2 .result) (c .before .if1 .taken) in
-    rw unfit (ap (λ (f : Frontend). record { fits = false; state = f }) (c .zeros .ensures))
+    rw unfit (c .zeros .ensures)
 
 -- ---- places that fit
 
@@ -67,16 +66,13 @@ returns-2 c =
     rw (fitting (registers .before))
     (λ i.
     record {
-      fits = true;
-      state = record {
-        registers = registers .registers-of .ensures i;
-        line = line .line-of .ensures i;
-        head = pending .before .count-at .ensures i;
-        pending = pending .pending-of .ensures i;
-        oldest = c .before .before .count-at2 .ensures i;
-        waiting = c .before .count-at3 .ensures i;
-        samples = c .count-at4 .ensures i;
-      };
+      registers = registers .registers-of .ensures i;
+      line = line .line-of .ensures i;
+      head = pending .before .count-at .ensures i;
+      pending = pending .pending-of .ensures i;
+      oldest = c .before .before .count-at2 .ensures i;
+      waiting = c .before .count-at3 .ensures i;
+      samples = c .count-at4 .ensures i;
     })
 
 pub read-state-spec : {M : Type 1} → statement M
