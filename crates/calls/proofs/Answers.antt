@@ -1,7 +1,7 @@
 -- How answers cross: the first number that is not 0, numbers below zero, and what starting and a block leave that fits places again.
 use Prim.Native.Nat.{ℕ, _^_, _≤_, _<_}
-use mathlib.Core.Path.{_≡_, refl, sym, _∙_}
-use mathlib.Core.Bool.{Bool, true, false}
+use mathlib.Core.Path.{_≡_, refl, sym, ap, subst, _∙_}
+use mathlib.Core.Bool.{Bool, true, false, cond}
 use mathlib.Core.List.{List, [], _∷_}
 use native.Mathlib.Omega.{arith}
 use lib.Dec.{eqb}
@@ -14,21 +14,23 @@ use borrow.Author.Tests.{eq-eqb, ne-eqb, eqb-true, eqb-false}
 use Rattle.arith.proofs.Magnitude.{abs-neg}
 use Rattle.arith.proofs.Bits.{sfit, whole}
 use Rattle.params.specs.Refusal.{Refusal}
-use Rattle.params.specs.Judge.{Sheet, firstOf, judged}
-use Rattle.params.proofs.Faults.{first-none}
+use Rattle.params.specs.Judge.{Sheet, firstOf, faults, judged}
+use Rattle.params.proofs.Faults.{Numbered, faults-numbered, first-none}
+use Rattle.params.proofs.Accepted.{no-faults as accepted-sheet}
 use Rattle.state.specs.declared.Pair.{Pair}
 use Rattle.state.specs.declared.Frontend.{Frontend}
-use Rattle.state.specs.Start.{startOf, fresh}
+use Rattle.state.specs.Start.{atRest, startOf, fresh}
 use Rattle.fixed.specs.Sample.{falls, madeBy, next, after, emitted}
 use Rattle.fixed.specs.Block.{Block, pairsOf, accepted, blockOf}
-use Rattle.state.specs.Check.{blockFaults}
+use Rattle.state.specs.Check.{goodState, stateFaults, blockFaults}
+use Rattle.state.specs.Read.{readOf}
 use Rattle.state.proofs.Going.{Going, going}
 use Rattle.fixed.proofs.States.{run-going}
 use Rattle.fixed.proofs.Runs.{run-samples}
 use Rattle.fixed.proofs.Turns.{pairs-long}
-use Rattle.state.proofs.Verdicts.{block-numbered, Faultless, faultless}
+use Rattle.state.proofs.Verdicts.{block-numbered, state-refuses, Faultless, faultless}
 use Rattle.places.specs.Answer.{answered}
-use Rattle.places.specs.States.{stateFits, hasPlaces}
+use Rattle.places.specs.States.{stateFits, stateOf, readState, hasPlaces}
 use Rattle.places.proofs.Placed.{Placed, has-places}
 use Rattle.calls.specs.Calls.{firstNumber, stateNumber}
 
@@ -48,19 +50,91 @@ nine a is z = go (eqb a 0) refl
     go true e = let n : _≡_ {A = ℕ} 9 0 = rw e at (sym is ∙ z) in omega arith
     go false e = eqb-false a 0 e (rw e at (sym is ∙ z))
 
--- ---- places that are those of a state, and those that are not
+-- one number more behind two
+pub first-more : (a b more : ℕ) {n : ℕ} → (n ≡ 0 → ⊥) → n ≡ firstNumber a b → n ≡ firstNumber a (firstNumber b more)
+first-more a b more {n} h e = go (eqb a 0) refl
+  where
+    go : (t : Bool) → eqb a 0 ≡ t → n ≡ firstNumber a (firstNumber b more)
+    go true t = then-is a (firstNumber b more) (eqb-true a 0 t) (first-is b more h (rw t at e))
+    go false t = first-is a (firstNumber b more) h (rw t at e)
 
-pub state-number : (s : Sheet) (state : List ℤ) → stateFits state ≡ true → stateNumber s state ≡ 0
-unfolding stateNumber
-state-number s state e = rw e refl
+-- none of two numbers
+pub none-of : (a b : ℕ) → firstNumber a b ≡ 0 → (a ≡ 0) × (b ≡ 0)
+none-of a b e = go (eqb a 0) refl
+  where
+    go : (t : Bool) → eqb a 0 ≡ t → (a ≡ 0) × (b ≡ 0)
+    go true t = (eqb-true a 0 t, rw t at e)
+    go false t = absurd (eqb-false a 0 t (rw t at e))
 
-pub record NoState (s : Sheet) (state : List ℤ) (n : ℕ) : Type 0 where
-  pub is : n ≡ stateNumber s state
-  pub some : n ≡ 0 → ⊥
+-- ---- places that are those of no state
 
-pub no-state : (s : Sheet) (state : List ℤ) {n : ℕ} → stateFits state ≡ false → n ≡ firstNumber (judged s .number) 9 → NoState s state n
-unfolding stateNumber
-no-state s state e is = record { is = rw e is; some = nine (judged s .number) is }
+-- zeros are no state to go on from: a sheet that is accepted has no period of 0
+zeros-bad : (s : Sheet) → faults s ≡ [] → goodState (s .params) (atRest 0 0) ≡ false
+zeros-bad s e = go (goodState (s .params) (atRest 0 0)) refl
+  where
+    go : (b : Bool) → goodState (s .params) (atRest 0 0) ≡ b → goodState (s .params) (atRest 0 0) ≡ false
+    go true t = absurd (omega (arith, going (s .params) (atRest 0 0) t .loop .low, accepted-sheet s e .periods .above))
+    go false t = t
+
+-- so what refuses them is 9, after 1 to 8
+zeros-refused : (s : Sheet) → firstOf (stateFaults s (atRest 0 0)) .number ≡ firstNumber (judged s .number) 9
+unfolding judged
+zeros-refused s = go (faults s) refl (faults-numbered s)
+  where
+    go : (rs : List Refusal) → faults s ≡ rs → Numbered (faults s) → firstOf (stateFaults s (atRest 0 0)) .number ≡ firstNumber (firstOf (faults s) .number) 9
+    go [] e n = rw (e, zeros-bad s e) refl
+    go (r ∷ rs) e n =
+        let some : 0 < r .number = subst Numbered e n .0 in
+        rw (e, ne-eqb (r .number) 0 (λ z. omega arith)) refl
+
+reading-first : (s : Sheet) (f : Frontend) → readOf s f .refused .number ≡ firstOf (stateFaults s f) .number
+unfolding readOf
+reading-first s f = go (eqb (firstOf (stateFaults s f) .number) 0) refl
+  where
+    go : (b : Bool) → eqb (firstOf (stateFaults s f) .number) 0 ≡ b → readOf s f .refused .number ≡ firstOf (stateFaults s f) .number
+    go true e = rw e (sym (eqb-true _ 0 e))
+    go false e = rw e refl
+
+block-of-zeros : (s : Sheet) (values out : List ℤ) → blockOf s (atRest 0 0) values out .refused .number ≡ firstNumber (judged s .number) 9
+unfolding blockOf
+block-of-zeros s values out =
+    let h : firstOf (stateFaults s (atRest 0 0)) .number ≡ 0 → ⊥ = nine (judged s .number) (zeros-refused s) in
+    let is = state-refuses s (atRest 0 0) (length values) (length out) (omega arith) refl in
+    let number : firstOf (blockFaults s (atRest 0 0) (length values) (length out)) .number ≡ firstNumber (judged s .number) 9 =
+    ap (λ (r : Refusal). r .number) (sym is) ∙ zeros-refused s in
+    rw (ne-eqb (firstOf (blockFaults s (atRest 0 0) (length values) (length out)) .number) 0 (nine (judged s .number) number)) number
+
+module _ (s : Sheet) (state : List ℤ) where
+  -- what refuses the state that is read of any places is what refuses the places, and then the state that they say
+  read-number : (refused : Frontend → ℕ) → refused (atRest 0 0) ≡ firstNumber (judged s .number) 9
+      → refused (readState state) ≡ firstNumber (stateNumber s state) (refused (stateOf state))
+  unfolding readState stateNumber
+  read-number refused zeros = go (stateFits state) refl
+    where
+      go : (b : Bool) → stateFits state ≡ b
+          → refused (cond (stateFits state) (stateOf state) (atRest 0 0)) ≡ firstNumber (cond (stateFits state) 0 (firstNumber (judged s .number) 9)) (refused (stateOf state))
+      go true e = rw e refl
+      go false e = rw e (zeros ∙ first-is (firstNumber (judged s .number) 9) (refused (stateOf state)) (nine (judged s .number) refl) refl)
+
+  -- where nothing refuses the places, they are those of a state
+  pub state-fits : stateNumber s state ≡ 0 → stateFits state ≡ true
+  unfolding stateNumber
+  state-fits z = go (stateFits state) refl
+    where
+      go : (b : Bool) → stateFits state ≡ b → stateFits state ≡ true
+      go true e = e
+      go false e = absurd (nine (judged s .number) refl (rw e at z))
+
+  pub state-read : stateFits state ≡ true → readState state ≡ stateOf state
+  unfolding readState
+  state-read e = rw e refl
+
+  pub reading-number : readOf s (readState state) .refused .number ≡ firstNumber (stateNumber s state) (readOf s (stateOf state) .refused .number)
+  reading-number = read-number (λ f. readOf s f .refused .number) (reading-first s (atRest 0 0) ∙ zeros-refused s)
+
+  pub block-number : (values out : List ℤ)
+      → blockOf s (readState state) values out .refused .number ≡ firstNumber (stateNumber s state) (blockOf s (stateOf state) values out .refused .number)
+  block-number values out = read-number (λ f. blockOf s f values out .refused .number) (block-of-zeros s values out)
 
 -- ---- what comes behind numbers that refuse nothing
 

@@ -5,7 +5,7 @@ use mathlib.Core.Path.{_≡_, refl, sym, ap, subst, _∙_}
 use mathlib.Core.Bool.{Bool, true, false, cond, _&&_}
 use mathlib.Core.List.{List, [], _∷_, _++_, flatten, map}
 use native.Mathlib.Omega.{arith}
-use lib.Dec.{eqb, leb, lit<}
+use lib.Dec.{leb, lit<}
 use lib.ListN.{length, getD, take, drop}
 use lib.Seq.{take-at}
 use lib.IntN.{ℤ, pos, natAbs, _+ℤ_, _-ℤ_}
@@ -13,7 +13,7 @@ use lib.Signed.{mag}
 use lib.Ieee.{Float}
 use lib.Ieee.Casts.{toUnsigned-lt, toSigned-in}
 use mir.Syntax.{w32}
-use borrow.Author.Tests.{eq-eqb, eqb-true, eqb-false}
+use borrow.Author.Tests.{eq-eqb}
 use Rattle.arith.specs.Arith.{modZ, wrapI32}
 use Rattle.arith.proofs.Order.{fit-pn, minus-pn}
 use Rattle.arith.proofs.Modulus.{mod-is}
@@ -36,7 +36,7 @@ use Rattle.places.proofs.Readable.{readable-design}
 use Rattle.places.proofs.Sheets.{sheets-cross}
 use Rattle.calls.specs.Calls.{firstNumber, judgeNumber, refusedBy, writtenBy, designAnswer}
 use Rattle.calls.specs.Made.{Made, DesignsCross}
-use Rattle.calls.proofs.Answers.{then-is}
+use Rattle.calls.proofs.Answers.{then-is, none-of}
 
 -- ---- the types of a design's registers
 
@@ -144,14 +144,6 @@ passed d gains h g k z =
 
 -- ---- what its call leaves
 
--- none of two numbers
-first-none : (a b : ℕ) → firstNumber a b ≡ 0 → (a ≡ 0) × (b ≡ 0)
-first-none a b e = go (eqb a 0) refl
-  where
-    go : (t : Bool) → eqb a 0 ≡ t → (a ≡ 0) × (b ≡ 0)
-    go true t = (eqb-true a 0 t, rw t at e)
-    go false t = absurd (eqb-false a 0 t (rw t at e))
-
 judges : (p : Params) (h g k : List ℤ) → TypedSheet p → faults (sheetOf p h g k) ≡ [] → judgeNumber (sheetNumbers p) h g k ≡ 0
 unfolding judgeNumber judged
 judges p h g k t none =
@@ -166,8 +158,8 @@ made rates fields h g k places e =
     let a : Designed Params = sheetOfDesign d (gainsAt fields) h g k in
     let p : Params = sheetMade (registersOf d (spsOf d)) (gainsAt fields) in
     let room : ℕ = cond (leb 17 (length places)) 0 11 in
-    let read = first-none (designNumber rates fields) (firstNumber (refusedBy a) room) e in
-    let pass = passed d (gainsAt fields) h g k (first-none (refusedBy a) room (read .1) .0) in
+    let read = none-of (designNumber rates fields) (firstNumber (refusedBy a) room) e in
+    let pass = passed d (gainsAt fields) h g k (none-of (refusedBy a) room (read .1) .0) in
     let left : take 17 (designAnswer rates fields h g k places .places) ≡ sheetNumbers p =
     ap (λ (b : Bool). take 17 (cond b (writtenBy a places) places)) (eq-eqb _ 0 e)
     ∙ ap (λ (x : Designed Params). take 17 (writtenBy x places)) (pass .is)

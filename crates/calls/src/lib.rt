@@ -3,12 +3,10 @@
 // No call asks anything of its caller: whatever is lent, it answers, with a refusal's number where something is wrong, and then it has touched no place.
 // 18 and 19 refuse a sheet or a design that cannot be read, before 1 to 8 and 14 to 17; places that are those of no state are refused by 9, after 1 to 8.
 use design::SheetVerdict;
-use params::Params;
 use places::ReadDesign;
 use places::ReadSheet;
 ghost use mathlib.Core.Path.{_≡_};
-ghost use Rattle.params.specs.Judge.{sheetOf, judged};
-ghost use Rattle.calls.specs.Calls.{firstNumber, judgeNumber, startAnswer, blockAnswer, readAnswer, offsetAnswer, sampleAnswer, designAnswer};
+ghost use Rattle.calls.specs.Calls.{judgeNumber, startAnswer, blockAnswer, readAnswer, offsetAnswer, sampleAnswer, designAnswer};
 
 // The number of the sheet's first fault, or 0 (document 01: judging).
 pub fn judge(sheet: &[i64], h: &[i32], g: &[i32], k: &[i32]) -> u32
@@ -43,18 +41,6 @@ pub fn start(sheet: &[i64], h: &[i32], g: &[i32], k: &[i32], state: &mut [i64]) 
     }
 }
 
-// What refuses a call whose state's places are those of no state: 1 to 8, then 9.
-fn no_state(p: Params, h: &[i32], g: &[i32], k: &[i32]) -> u32
-    ensures { λ r. ⌜ r ≡ firstNumber (judged (sheetOf p (now (h .entry)) (now (g .entry)) (now (k .entry))) .number) 9 ⌝ }
-{
-    let verdict = p.validate(h, g, k);
-    let refused = verdict.number();
-    if refused != 0 {
-        return refused;
-    }
-    9
-}
-
 // Takes a block of samples, I before Q, from the state on; writes 20 places a symbol and the state after it (document 01: a block). Answers
 // how many symbols it wrote, or the refusal's number below zero.
 pub fn block(
@@ -73,11 +59,7 @@ pub fn block(
     match places::read_sheet(sheet) {
         ReadSheet::Refused(number) => 0 - number as i64,
         ReadSheet::Sheet(p) => {
-            let read = places::read_state(&*state);
-            if !read.fits {
-                return 0 - no_state(p, h, g, k) as i64;
-            }
-            let before = read.state;
+            let before = places::read_state(&*state);
             let done = fixed::process(before, p, h, g, k, values, &mut *out);
             let verdict = done.verdict;
             let refused = verdict.number();
@@ -107,11 +89,7 @@ pub fn read(
     match places::read_sheet(sheet) {
         ReadSheet::Refused(number) => number,
         ReadSheet::Sheet(p) => {
-            let read = places::read_state(state);
-            if !read.fits {
-                return no_state(p, h, g, k);
-            }
-            let reading = read.state.read(p, h, g, k);
+            let reading = places::read_state(state).read(p, h, g, k);
             let verdict = reading.verdict;
             let refused = verdict.number();
             if refused != 0 {

@@ -6,7 +6,7 @@ use lib.Dec.{leb}
 use borrow.Author.Tests.{leb-true, le-leb}
 use Rattle.arith.proofs.Both.{and-left, and-right, and-both}
 use Rattle.state.specs.declared.Frontend.{Frontend}
-use Rattle.places.specs.States.{hasPlaces}
+use Rattle.places.specs.States.{areCounts, hasPlaces}
 
 pub record Placed (f : Frontend) : Type 0 where
   pub symbols : f .registers .symbols ≤ 9223372036854775807
@@ -16,7 +16,7 @@ pub record Placed (f : Frontend) : Type 0 where
   pub samples : f .samples ≤ 9223372036854775807
 
 pub placed : (f : Frontend) → hasPlaces f ≡ true → Placed f
-unfolding hasPlaces
+unfolding areCounts
 placed f e =
     let a : Bool = leb (f .registers .symbols) 9223372036854775807 in
     let b : Bool = leb (f .head) 9223372036854775807 in
@@ -35,7 +35,7 @@ placed f e =
     }
 
 pub has-places : (f : Frontend) → Placed f → hasPlaces f ≡ true
-unfolding hasPlaces
+unfolding areCounts
 has-places f p =
     and-both (le-leb _ _ (p .symbols))
     (and-both (le-leb _ _ (p .head)) (and-both (le-leb _ _ (p .oldest)) (and-both (le-leb _ _ (p .waiting)) (le-leb _ _ (p .samples)))))

@@ -1,4 +1,4 @@
--- What was read, from the answer of reading: a refusal is the number of the places, and a sheet, a design or a state is that of places that can be read.
+-- What was read, from the answer of reading: a refusal is the number of the places, and a sheet or a design is that of places that can be read.
 use Prim.Native.Nat.{ℕ}
 use mathlib.Core.Path.{_≡_, refl}
 use mathlib.Core.Bool.{Bool, true, false}
@@ -15,7 +15,6 @@ use Rattle.places.specs.declared.ReadSheet.{ReadSheet}
 use Rattle.places.specs.declared.ReadDesign.{ReadDesign}
 use Rattle.places.specs.Sheet.{sheetNumber, paramsAt, readSheet}
 use Rattle.places.specs.Rates.{designNumber, designAt, gainsAt, readDesign}
-use Rattle.places.specs.States.{stateFits, stateOf, readState}
 
 -- a refusal has a number other than 0
 pub record Unread (number n : ℕ) : Type 0 where
@@ -83,17 +82,3 @@ design-read rates fields {d} {gains} e = go (eqb (designNumber rates fields) 0) 
         let k : ReadDesign.Refused (designNumber rates fields) ≡ ReadDesign.Design d gains = rw t at e in
         let z : _≡_ {A = ℕ} 0 1 = cc in
         absurd (omega arith)
-
--- ---- a state
-
-pub state-tested : (l : List ℤ) → readState l .fits ≡ stateFits l
-unfolding readState
-state-tested l = go (stateFits l) refl
-  where
-    go : (b : Bool) → stateFits l ≡ b → readState l .fits ≡ stateFits l
-    go true t = rw t refl
-    go false t = rw t refl
-
-pub state-read : (l : List ℤ) → stateFits l ≡ true → readState l .state ≡ stateOf l
-unfolding readState
-state-read l t = rw t refl

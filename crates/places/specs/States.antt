@@ -1,7 +1,7 @@
 -- A state as 186 places: nco, t, v, period, gain accumulator, symbols, the line's position, the queue's position and count, samples; then the line's 64 pairs
 -- and the 24 pairs of waiting errors, all as they are stored. (Document 01, 'From the Rust's forms to ours': the parts of a state. Their order here is ours.)
 use Prim.Native.Nat.{ℕ}
-use mathlib.Core.Bool.{Bool, true, false, cond, _&&_}
+use mathlib.Core.Bool.{Bool, cond, _&&_}
 use mathlib.Core.List.{List, [], _∷_, _++_}
 use lib.Dec.{eqb, leb}
 use lib.ListN.{length, take, drop, replicate}
@@ -11,7 +11,6 @@ use Rattle.registers.specs.declared.Pending.{Pending}
 use Rattle.state.specs.declared.Frontend.{Frontend}
 use Rattle.state.specs.Start.{atRest}
 use Rattle.kinds.specs.Kinds.{at, u32, i32, i64, count, areKinds}
-use Rattle.places.specs.declared.ReadState.{ReadState}
 use Rattle.places.specs.Answer.{Answer, answered}
 
 -- ---- numbers in pairs
@@ -69,9 +68,9 @@ stateOf l = record {
   samples = natAbs (at l 9);
 }
 
--- What reading a state answers: whether the places are those of one, and the state, which is zeros throughout where they are not.
-unfoldable pub readState : List ℤ → ReadState
-readState l = cond (stateFits l) (record { fits = true; state = stateOf l }) (record { fits = false; state = atRest 0 0 })
+-- What is read of any places: the state that they say, where they are those of one, and else zeros throughout.
+unfoldable pub readState : List ℤ → Frontend
+readState l = cond (stateFits l) (stateOf l) (atRest 0 0)
 
 -- The first ten places of a state.
 abbrev pub firstNumbers : Frontend → List ℤ
@@ -83,13 +82,16 @@ firstNumbers f =
 unfoldable pub numbersOf : Frontend → List ℤ
 numbersOf f = firstNumbers f ++ (lineNumbers (f .line) ++ pendingNumbers (f .pending))
 
--- The counts of a state are small enough for places.
-unfoldable pub hasPlaces : Frontend → Bool
-hasPlaces f =
-    leb (f .registers .symbols) 9223372036854775807
-    && (leb (f .head) 9223372036854775807
-    && (leb (f .oldest) 9223372036854775807
-    && (leb (f .waiting) 9223372036854775807 && leb (f .samples) 9223372036854775807)))
+-- Counts that are small enough for places.
+unfoldable pub areCounts : ℕ → ℕ → ℕ → ℕ → ℕ → Bool
+areCounts symbols head oldest waiting samples =
+    leb symbols 9223372036854775807
+    && (leb head 9223372036854775807
+    && (leb oldest 9223372036854775807 && (leb waiting 9223372036854775807 && leb samples 9223372036854775807)))
+
+-- The counts of a state are.
+abbrev pub hasPlaces : Frontend → Bool
+hasPlaces f = areCounts (f .registers .symbols) (f .head) (f .oldest) (f .waiting) (f .samples)
 
 -- Writing a state: to 186 places, or 9 where there is another number of them, or where a count is too large for one.
 unfoldable pub stateWritten : Frontend → List ℤ → Answer

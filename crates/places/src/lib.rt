@@ -10,7 +10,6 @@ mod states;
 use design::Design;
 use design::Gains;
 use params::Params;
-use state::Frontend;
 pub use rates::read_design;
 pub use sheet::no_sheet;
 pub use sheet::read_sheet;
@@ -23,12 +22,6 @@ pub use states::write_state;
 pub enum ReadSheet {
     Sheet(Params),
     Refused(u32),
-}
-
-// The state of some places, and whether they are those of one. Where they are not, the state is zeros throughout.
-pub struct ReadState {
-    pub fits: bool,
-    pub state: Frontend,
 }
 
 // The design of some rates and places with the gains that it leaves open, or 18 or 19.

@@ -1,6 +1,5 @@
 // A state as 186 places: nco, t_acc, v, period, gain_acc, symbols, head, oldest, waiting, samples; then the line's 64 pairs i, q, and the 24 pairs
 // e, err of the waiting errors, both as they are stored.
-use crate::ReadState;
 use crate::numbers;
 use registers::Pending;
 use registers::Registers;
@@ -12,7 +11,7 @@ ghost use mathlib.Core.List.{_++_};
 ghost use lib.ListN.{length, take, drop};
 ghost use Rattle.state.specs.Start.{atRest};
 ghost use Rattle.places.specs.States.{stateKinds, stateFits, stateOf, readState, lineOf, pendingOf};
-ghost use Rattle.places.specs.States.{hasPlaces, firstNumbers, lineNumbers, pendingNumbers, numbersOf, stateWritten};
+ghost use Rattle.places.specs.States.{areCounts, hasPlaces, firstNumbers, lineNumbers, pendingNumbers, stateWritten};
 
 // ---- from places
 
@@ -93,22 +92,6 @@ fn pending_of(state: &[i64]) -> [Pending; 24]
     pending
 }
 
-// The state that these places say.
-fn read(state: &[i64]) -> Frontend
-    requires { ⌜ stateFits (now state) ≡ true ⌝ }
-    ensures { λ r. ⌜ r ≡ stateOf (now (state .entry)) ⌝ }
-{
-    Frontend {
-        registers: registers_of(state),
-        line: line_of(state),
-        head: numbers::count_at(state, 6) as usize,
-        pending: pending_of(state),
-        oldest: numbers::count_at(state, 7) as usize,
-        waiting: numbers::count_at(state, 8) as usize,
-        samples: numbers::count_at(state, 9),
-    }
-}
-
 fn zeros() -> Frontend
     ensures { λ r. ⌜ r ≡ atRest 0 0 ⌝ }
 {
@@ -132,42 +115,43 @@ fn zeros() -> Frontend
     }
 }
 
-// The state of these places, where they are those of one.
-pub fn read_state(state: &[i64]) -> ReadState
+// The state of these places. Where they are those of no state it is zeros throughout, and 9 refuses these: no sheet has a period of 0.
+pub fn read_state(state: &[i64]) -> Frontend
     ensures { λ r. ⌜ r ≡ readState (now (state .entry)) ⌝ }
 {
     if !fits(state) {
-        return ReadState {
-            fits: false,
-            state: zeros(),
-        };
+        return zeros();
     }
-    ReadState {
-        fits: true,
-        state: read(state),
+    Frontend {
+        registers: registers_of(state),
+        line: line_of(state),
+        head: numbers::count_at(state, 6) as usize,
+        pending: pending_of(state),
+        oldest: numbers::count_at(state, 7) as usize,
+        waiting: numbers::count_at(state, 8) as usize,
+        samples: numbers::count_at(state, 9),
     }
 }
 
 // ---- to places
 
 // Whether the counts of a state are small enough for places.
-fn has_places(f: Frontend) -> bool
-    ensures { λ r. ⌜ r ≡ hasPlaces f ⌝ }
+fn are_counts(symbols: u64, head: usize, oldest: usize, waiting: usize, samples: u64) -> bool
+    ensures { λ r. ⌜ r ≡ areCounts symbols head oldest waiting samples ⌝ }
 {
-    let r = f.registers;
-    if 0x7fff_ffff_ffff_ffff < r.symbols {
+    if 0x7fff_ffff_ffff_ffff < symbols {
         return false;
     }
-    if 0x7fff_ffff_ffff_ffff < f.head {
+    if 0x7fff_ffff_ffff_ffff < head {
         return false;
     }
-    if 0x7fff_ffff_ffff_ffff < f.oldest {
+    if 0x7fff_ffff_ffff_ffff < oldest {
         return false;
     }
-    if 0x7fff_ffff_ffff_ffff < f.waiting {
+    if 0x7fff_ffff_ffff_ffff < waiting {
         return false;
     }
-    f.samples <= 0x7fff_ffff_ffff_ffff
+    samples <= 0x7fff_ffff_ffff_ffff
 }
 
 fn write_first(f: Frontend, state: &mut [i64])
@@ -215,17 +199,6 @@ fn write_pending(pending: [Pending; 24], state: &mut [i64])
     }
 }
 
-fn write(f: Frontend, state: &mut [i64])
-    requires { ⌜ (length (now state) ≡ 186) × (hasPlaces f ≡ true) ⌝ }
-    ensures { λ _. ⌜ now (state .exit) ≡ numbersOf f ⌝ }
-{
-    let line = f.line;
-    let pending = f.pending;
-    write_first(f, &mut *state);
-    write_line(line, &mut *state);
-    write_pending(pending, &mut *state);
-}
-
 // Writes all places of a state, or answers 9 where there are not 186, or where a count has no place.
 pub fn write_state(f: Frontend, state: &mut [i64]) -> u32
     ensures { λ r. ⌜ record { number = r; places = now (state .exit) } ≡ stateWritten f (now (state .entry)) ⌝ }
@@ -233,9 +206,14 @@ pub fn write_state(f: Frontend, state: &mut [i64]) -> u32
     if state.len() != 186 {
         return 9;
     }
-    if !has_places(f) {
+    let r = f.registers;
+    if !are_counts(r.symbols, f.head, f.oldest, f.waiting, f.samples) {
         return 9;
     }
-    write(f, &mut *state);
+    let line = f.line;
+    let pending = f.pending;
+    write_first(f, &mut *state);
+    write_line(line, &mut *state);
+    write_pending(pending, &mut *state);
     0
 }

@@ -1,7 +1,7 @@
 // The answers of calls in the numbers that a row has for them: a refusal's number (document 01: 1 to 12) and what it carries, or 0.
 use params::Verdict;
-use replay::answer::Answer;
 use replay::answer;
+use replay::answer::Answer;
 use state::FrontendVerdict;
 
 pub(crate) fn of_verdict(v: Verdict) -> Answer {

@@ -71,10 +71,8 @@ impl Frontend {
         values: usize,
         places: usize,
     ) -> FrontendVerdict
-        ensures {
-            λ r. ⌜
-            frontendRefusal r ≡ firstOf (blockFaults (sheetOf p (now (h .entry)) (now (g .entry)) (now (k .entry))) self values places) ⌝
-        }
+        ensures { λ r. ⌜
+            frontendRefusal r ≡ firstOf (blockFaults (sheetOf p (now (h .entry)) (now (g .entry)) (now (k .entry))) self values places) ⌝ }
     {
         let verdict = self.check_state(p, h, g, k);
         match verdict {

@@ -10,20 +10,19 @@ use lib.IntN.{ℤ, pos, negℤ}
 use mir.Syntax.{w64}
 use mir.Facts.{toZ-pos}
 use borrow.Author.Needs.{needs}
-use borrow.Author.Tests.{eq-eqb, ne-eqb, not-true, not-false}
+use borrow.Author.Tests.{eq-eqb, ne-eqb}
 use Rattle.arith.proofs.Bits.{sfit}
 use Rattle.params.specs.declared.Params.{Params}
-use Rattle.params.specs.Judge.{Sheet, sheetOf, judged}
+use Rattle.params.specs.Judge.{Sheet, sheetOf}
 use Rattle.state.specs.declared.Frontend.{Frontend}
 use Rattle.fixed.specs.Block.{Block, blockOf, processed}
 use Rattle.places.specs.Sheet.{sheetNumber}
-use Rattle.places.specs.declared.ReadState.{ReadState}
 use Rattle.places.specs.Answer.{Answer}
-use Rattle.places.specs.States.{stateFits, stateOf, numbersOf, hasPlaces, stateWritten}
+use Rattle.places.specs.States.{stateFits, stateOf, readState, numbersOf, hasPlaces, stateWritten}
 use Rattle.calls.specs.Calls.{firstNumber, sheetAt, stateNumber, BlockAnswer, blockAnswer}
 use Rattle.places.proofs.Readable.{state-long}
-use Rattle.places.proofs.Read.{Unread, Sheeted, sheet-refused, sheet-read, state-tested, state-read}
-use Rattle.calls.proofs.Answers.{first-is, then-is, state-number, no-state, minus-fits, minus-read, untouched, Left, left}
+use Rattle.places.proofs.Read.{Unread, Sheeted, sheet-refused, sheet-read}
+use Rattle.calls.proofs.Answers.{first-is, then-is, none-of, state-fits, state-read, block-number, minus-fits, minus-read, untouched, Left, left}
 use Rattle.calls.proofs.block.Statement.{statement}
 use Rattle.calls.proofs.block.Tie as tie
 
@@ -77,85 +76,15 @@ small c = search needs
 sub-result : tie.Need-sub-result
 sub-result c = minus-fits _ (small c)
 
-returns-3 : tie.Need-returns-3
-returns-3 c =
+returns-2 : tie.Need-returns-2
+returns-2 c =
     let u = unread (c .before) in
     refuses _ _ _ _ _ _ _ (u .some) (first-is _ _ (u .some) (u .is)) (minus-read _ (small c)) refl
 
--- ---- places that are those of no state
+-- ---- the state
 
 read-state-requires : tie.Need-read-state-requires
 read-state-requires c κs = search needs
-
-no-state-requires : tie.Need-no-state-requires
-no-state-requires c κs = search needs
-
-cast-result-2 : tie.Need-cast-result-2
-cast-result-2 c = search needs
-
-sub-result-2 : tie.Need-sub-result-2
-sub-result-2 c = minus-fits (c .no-state .result) (c .no-state .ok)
-
-same-length : tie.Need-same-length
-same-length c = search needs
-
--- whether they fit, as it was read
-tested : (c : tie.After-read-state) → c .read-state .result .fits ≡ stateFits (c .before .before .before .before .before .before .args .state .now)
-tested c = ap (λ (r : ReadState). r .fits) (c .read-state .ensures) ∙ state-tested _
-
-returns : tie.Need-returns
-returns c =
-    let read = c .before .before .before in
-    let arm = read .before .before .before in
-    let a = arm .before .before .before .args in
-    let unfit = sym (tested read) ∙ not-true (read .read-state .result .fits) (c .before .if1 .taken) in
-    let is = c .no-state .ensures ∙ ap (λ (p : Params). firstNumber (judged (sheetOf p (a .h .now) (a .g .now) (a .k .now)) .number) 9) (readable arm .is) in
-    let none = no-state (sheetAt (a .sheet .now) (a .h .now) (a .g .now) (a .k .now)) (a .state .now) unfit is in
-    refuses _ _ _ _ _ _ _ (none .some) (then-is _ _ (readable arm .none) (first-is _ _ (none .some) (none .is)))
-    (minus-read (c .no-state .result) (c .no-state .ok)) refl
-
--- ---- a state
-
-fitting : (c : tie.Else1) → stateFits (c .before .before .before .before .before .before .before .before .args .state .now) ≡ true
-fitting c = let read = c .before .before in sym (tested read) ∙ not-false (read .read-state .result .fits) (c .if1 .left)
-
--- what the block answers
-module _ (c : tie.After-process) where
-  abbrev fits : tie.Else1
-  fits = c .before .before .before
-
-  abbrev given : tie.After-read-state
-  given = fits .before .before
-
-  abbrev arm : tie.After-p
-  arm = given .before .before .before
-
-  abbrev start : tie.Start
-  start = arm .before .before .before
-
-  abbrev done : Block
-  done = let a = start .args in block (a .sheet .now) (a .h .now) (a .g .now) (a .k .now) (a .state .now) (a .values .now) (a .out .now)
-
-  told : processed (c .process .result) (c .process .last .1 .1 .1 .1 .1 .1 .0) ≡ done
-  told =
-      let a = start .args in
-      let f = given .read-state .result .state in
-      let of-p : Params → Block = λ p. blockOf (sheetOf p (a .h .now) (a .g .now) (a .k .now)) f (a .values .now) (a .out .now) in
-      let of-f : Frontend → Block = λ f. blockOf (sheetAt (a .sheet .now) (a .h .now) (a .g .now) (a .k .now)) f (a .values .now) (a .out .now) in
-      c .process .ensures
-      ∙ ap of-p (readable arm .is)
-      ∙ ap of-f (ap (λ (r : ReadState). r .state) (given .read-state .ensures) ∙ state-read _ (fitting fits))
-
--- its number, and with it the call's
-numbered : (c : tie.After-number2) → c .number2 .result ≡ done (c .before .before) .refused .number
-numbered c = c .number2 .ensures ∙ ap (λ (b : Block). b .refused .number) (told (c .before .before))
-
-called : (c : tie.After-number2)
-    → let a = start (c .before .before) .args in
-    c .number2 .result ≡ number (a .sheet .now) (a .h .now) (a .g .now) (a .k .now) (a .state .now) (a .values .now) (a .out .now)
-called c =
-    let p = c .before .before in
-    then-is _ _ (readable (arm p) .none) (then-is _ _ (state-number _ _ (fitting (fits p))) (numbered c))
 
 process-requires : tie.Need-process-requires
 process-requires c κs = search needs
@@ -163,61 +92,115 @@ process-requires c κs = search needs
 number-requires : tie.Need-number-requires
 number-requires c κs = search needs
 
-cast-result-3 : tie.Need-cast-result-3
-cast-result-3 c = search needs
+-- what the block answers of any places
+module _ (c : tie.After-process) where
+  abbrev given : tie.After-read-state
+  given = c .before .before
 
-sub-result-3 : tie.Need-sub-result-3
-sub-result-3 c = minus-fits (c .before .number2 .result) (c .before .number2 .ok)
+  abbrev arm : tie.After-p
+  arm = given .before .before .before
+
+  abbrev start : tie.Start
+  start = arm .before .before .before
+
+  abbrev asked : Sheet
+  asked = let a = start .args in sheetAt (a .sheet .now) (a .h .now) (a .g .now) (a .k .now)
+
+  abbrev blockFrom : Frontend → Block
+  blockFrom f = let a = start .args in blockOf asked f (a .values .now) (a .out .now)
+
+  abbrev places : List ℤ
+  places = start .args .state .now
+
+  told : processed (c .process .result) (c .process .last .1 .1 .1 .1 .1 .1 .0) ≡ blockFrom (readState places)
+  told =
+      let a = start .args in
+      let of-p : Params → Block = λ p. blockOf (sheetOf p (a .h .now) (a .g .now) (a .k .now)) (given .read-state .result) (a .values .now) (a .out .now) in
+      c .process .ensures ∙ ap of-p (readable arm .is) ∙ ap (λ (f : Frontend). blockFrom f) (given .read-state .ensures)
+
+-- its number: that of the places, then that of the state that they say
+numbered : (c : tie.After-number2) → let p = c .before .before in
+    c .number2 .result ≡ firstNumber (stateNumber (asked p) (places p)) (blockFrom p (stateOf (places p)) .refused .number)
+numbered c =
+    let p = c .before .before in
+    let a = start p .args in
+    c .number2 .ensures ∙ ap (λ (b : Block). b .refused .number) (told p) ∙ block-number (asked p) (places p) (a .values .now) (a .out .now)
+
+-- and with it the call's
+called : (c : tie.After-number2)
+    → let a = start (c .before .before) .args in
+    c .number2 .result ≡ number (a .sheet .now) (a .h .now) (a .g .now) (a .k .now) (a .state .now) (a .values .now) (a .out .now)
+called c = then-is _ _ (readable (arm (c .before .before)) .none) (numbered c)
+
+cast-result-2 : tie.Need-cast-result-2
+cast-result-2 c = search needs
+
+sub-result-2 : tie.Need-sub-result-2
+sub-result-2 c = minus-fits (c .before .number2 .result) (c .before .number2 .ok)
+
+same-length : tie.Need-same-length
+same-length c = search needs
 
 same-length-2 : tie.Need-same-length-2
 same-length-2 c = search needs
 
-same-length-3 : tie.Need-same-length-3
-same-length-3 c = search needs
-
-returns-2 : tie.Need-returns-2
-returns-2 c =
+returns : tie.Need-returns
+returns c =
     let p = c .before .before .before in
-    refuses _ _ _ _ _ _ _ (c .if2 .taken) (called (c .before)) (minus-read (c .before .number2 .result) (c .before .number2 .ok))
-    (ap (λ (b : Block). b .output) (told p) ∙ untouched _ _ _ _ (λ z. c .if2 .taken (numbered (c .before) ∙ z)))
+    let refused = c .before .number2 .ensures ∙ ap (λ (b : Block). b .refused .number) (told p) in
+    refuses _ _ _ _ _ _ _ (c .if1 .taken) (called (c .before)) (minus-read (c .before .number2 .result) (c .before .number2 .ok))
+    (ap (λ (b : Block). b .output) (told p) ∙ untouched _ _ _ _ (λ z. c .if1 .taken (refused ∙ z)))
 
 -- ---- nothing is refused
 
-leaves : (c : tie.Else2) → Left (done (c .before .before .before))
-leaves c = left _ _ _ _ (sym (numbered (c .before)) ∙ c .if2 .left)
+module _ (c : tie.Else1) where
+  abbrev ran : tie.After-process
+  ran = c .before .before .before
+
+  none : (stateNumber (asked ran) (places ran) ≡ 0) × (blockFrom ran (stateOf (places ran)) .refused .number ≡ 0)
+  none = none-of _ _ (sym (numbered (c .before)) ∙ c .if1 .left)
+
+  fitting : stateFits (places ran) ≡ true
+  fitting = state-fits (asked ran) (places ran) (none .0)
+
+  done : processed (ran .process .result) (ran .process .last .1 .1 .1 .1 .1 .1 .0) ≡ blockFrom ran (stateOf (places ran))
+  done = told ran ∙ ap (λ (f : Frontend). blockFrom ran f) (state-read (asked ran) (places ran) fitting)
+
+  leaves : Left (blockFrom ran (stateOf (places ran)))
+  leaves = left _ _ _ _ (none .1)
+
+  -- the count, as a signed number
+  counted : ran .process .result .count ≤ 9223372036854775807
+  counted = subst (λ (n : ℕ). n ≤ 9223372036854775807) (ap (λ (b : Block). b .count) (sym done)) (leaves .counted)
 
 write-state-requires : tie.Need-write-state-requires
 write-state-requires c κs = search needs
 
--- the count, as a signed number
-counted : (c : tie.Else2) → c .before .before .before .process .result .count ≤ 9223372036854775807
-counted c = subst (λ (n : ℕ). n ≤ 9223372036854775807) (ap (λ (b : Block). b .count) (sym (told (c .before .before .before)))) (leaves c .counted)
+cast-result-3 : tie.Need-cast-result-3
+cast-result-3 c = sfit (omega (arith, counted (c .before .before .before .before .before)))
 
-cast-result-4 : tie.Need-cast-result-4
-cast-result-4 c = sfit (omega (arith, counted (c .before .before .before .before .before)))
+same-length-3 : tie.Need-same-length-3
+same-length-3 c = search needs
 
 same-length-4 : tie.Need-same-length-4
 same-length-4 c = search needs
-
-same-length-5 : tie.Need-same-length-5
-same-length-5 c = search needs
 
 -- a state whose counts have places is written to as many places as a state has
 written : (f : Frontend) (l : List ℤ) → length l ≡ 186 → hasPlaces f ≡ true → stateWritten f l .places ≡ numbersOf f
 unfolding stateWritten
 written f l long placed = rw (eq-eqb (length l) 186 long, placed) refl
 
-returns-4 : tie.Need-returns-4
-returns-4 c =
+returns-3 : tie.Need-returns-3
+returns-3 c =
     let right = c .before .before .before .before .before in
-    let p = right .before .before .before in
-    let l = start p .args .state .now in
-    writes _ _ _ _ _ _ _ (sym (right .if2 .left) ∙ called (right .before))
-    (toZ-pos w64 {n = p .process .result .count} (omega (arith, counted right)) ∙ ap (λ (b : Block). pos (b .count)) (told p))
+    let p = ran right in
+    let l = places p in
+    writes _ _ _ _ _ _ _ (sym (right .if1 .left) ∙ called (right .before))
+    (toZ-pos w64 {n = p .process .result .count} (omega (arith, counted right)) ∙ ap (λ (b : Block). pos (b .count)) (done right))
     (ap (λ (a : Answer). a .places) (c .before .before .write-state .ensures)
-    ∙ ap (λ (b : Block). stateWritten (b .state) l .places) (told p)
-    ∙ written (done p .state) l (state-long l (fitting (fits p))) (leaves right .placed))
-    (ap (λ (b : Block). b .output) (told p))
+    ∙ ap (λ (b : Block). stateWritten (b .state) l .places) (done right)
+    ∙ written (blockFrom p (stateOf l) .state) l (state-long l (fitting right)) (leaves right .placed))
+    (ap (λ (b : Block). b .output) (done right))
 
 pub block-spec : {M : Type 1} → statement M
 block-spec =
@@ -229,21 +212,16 @@ block-spec =
     sub-result
     enum-known-p
     read-state-requires
-    no-state-requires
+    process-requires
+    number-requires
     cast-result-2
     sub-result-2
     same-length
-    returns
-    process-requires
-    number-requires
-    cast-result-3
-    sub-result-3
     same-length-2
-    same-length-3
-    returns-2
+    returns
     write-state-requires
-    cast-result-4
-    returns-3
+    cast-result-3
+    returns-2
+    same-length-3
     same-length-4
-    same-length-5
-    returns-4)
+    returns-3)

@@ -47,31 +47,31 @@ slice-set-from-state-3 : tie.Need-slice-set-from-state-3
 slice-set-from-state-3 c = simp length-set (omega (arith, c .before .before .before .before .before .before .pre .0))
 
 cast-state-4 : tie.Need-cast-state-4
-cast-state-4 c = let s = c .before .before .before .before .before .before .before in sfit (omega (arith, small s .symbols))
+cast-state-4 c = let p = small (c .before .before .before .before .before .before .before) in sfit (omega arith)
 
 slice-set-from-state-4 : tie.Need-slice-set-from-state-4
 slice-set-from-state-4 c = simp length-set (omega (arith, c .before .before .before .before .before .before .before .pre .0))
 
 cast-state-5 : tie.Need-cast-state-5
-cast-state-5 c = let s = c .before .before .before .before .before .before .before .before in sfit (omega (arith, small s .head))
+cast-state-5 c = let p = small (c .before .before .before .before .before .before .before .before) in sfit (omega arith)
 
 slice-set-from-state-5 : tie.Need-slice-set-from-state-5
 slice-set-from-state-5 c = simp length-set (omega (arith, c .before .before .before .before .before .before .before .before .pre .0))
 
 cast-state-6 : tie.Need-cast-state-6
-cast-state-6 c = let s = c .before .before .before .before .before .before .before .before .before in sfit (omega (arith, small s .oldest))
+cast-state-6 c = let p = small (c .before .before .before .before .before .before .before .before .before) in sfit (omega arith)
 
 slice-set-from-state-6 : tie.Need-slice-set-from-state-6
 slice-set-from-state-6 c = simp length-set (omega (arith, c .before .before .before .before .before .before .before .before .before .pre .0))
 
 cast-state-7 : tie.Need-cast-state-7
-cast-state-7 c = let s = c .before .before .before .before .before .before .before .before .before .before in sfit (omega (arith, small s .waiting))
+cast-state-7 c = let p = small (c .before .before .before .before .before .before .before .before .before .before) in sfit (omega arith)
 
 slice-set-from-state-7 : tie.Need-slice-set-from-state-7
 slice-set-from-state-7 c = simp length-set (omega (arith, c .before .before .before .before .before .before .before .before .before .before .pre .0))
 
 cast-state-8 : tie.Need-cast-state-8
-cast-state-8 c = let s = c .before .before .before .before .before .before .before .before .before .before .before in sfit (omega (arith, small s .samples))
+cast-state-8 c = let p = small (c .before .before .before .before .before .before .before .before .before .before .before) in sfit (omega arith)
 
 slice-set-from-state-8 : tie.Need-slice-set-from-state-8
 slice-set-from-state-8 c = simp length-set (omega (arith, c .before .before .before .before .before .before .before .before .before .before .before .pre .0))
