@@ -1,10 +1,10 @@
 -- Rounding and shifting. R needs no sum that could overflow: of v, shifted to one place before the last, it takes the half rounded up, which is that
 -- number less its half rounded down. A shift past the last place of 64 bits leaves the sign alone, and R leaves 0.
 use Prim.Native.Nat.{ℕ, zero, suc, _+_, _-_, _*_, _/_, _^_, _≤_, _<_}
-use mathlib.Core.Path.{_≡_, sym, ap, _∙_}
+use mathlib.Core.Path.{_≡_, refl, sym, ap, _∙_}
 use native.Mathlib.Nat.{le-refl, pow-suc, div-zero, div-eq-of-lt, div-div-eq-div-mul, add-div-right}
 use native.Mathlib.Omega.{arith}
-use lib.IntN.{ℤ, pos, negsuc, negℤ, natAbs, _+ℤ_, _-ℤ_}
+use lib.IntN.{ℤ, pos, negsuc, negℤ, natAbs, _+ℤ_, _-ℤ_, +ℤ-idr}
 use lib.Signed.{mag, shrZ}
 use lib.Pow.{pow-pos, pow-mono}
 use mir.Syntax.{Width}
@@ -85,9 +85,25 @@ unfolding roundShift
 round-fits zero f = f
 round-fits {w} {v} (suc s) f = rw (round-halves v (suc s) (omega arith)) (upper-fits (shr-fits (2 ^ (suc s - 1)) f))
 
+-- the same with half of 2^s added, which is 0 for s = 0
+pub round-added : (v : ℤ) (s : ℕ) → shrZ (v +ℤ pos (2 ^ s / 2)) (2 ^ s) ≡ roundShift v s
+unfolding roundShift
+round-added v zero = ap (λ (z : ℤ). shrZ z 1) (+ℤ-idr v) ∙ shr-one v
+  where
+    shr-one : (z : ℤ) → shrZ z 1 ≡ z
+    shr-one (pos n) = ap pos (omega arith)
+    shr-one (negsuc n) = ap negsuc (omega arith)
+round-added v (suc s) =
+    let last : s ≡ suc s - 1 = omega arith in
+    let half : 2 ^ suc s / 2 ≡ 2 ^ (suc s - 1) = ap (λ (n : ℕ). n / 2) (pow-suc 2 s) ∙ halved (2 ^ s) ∙ ap (λ (n : ℕ). 2 ^ n) last in
+    rw (half, ne-eqb (suc s) 0 (omega arith)) refl
+  where
+    halved : (n : ℕ) → n * 2 / 2 ≡ n
+    halved n = omega arith
+
 -- ---- past the last place of 64 bits
 
-far : (a s : ℕ) → a < 2 ^ 63 → 63 ≤ s → a / 2 ^ s ≡ 0
+far : {j : ℕ} (a s : ℕ) → a < 2 ^ j → j ≤ s → a / 2 ^ s ≡ 0
 far a s h k = div-eq-of-lt (omega (arith, pow-mono k))
 
 pub shr-far : (v : ℤ) (s : ℕ) → mag v < 2 ^ 63 → 63 ≤ s → shrZ v (2 ^ s) ≡ shrZ v (2 ^ 63)
@@ -100,9 +116,9 @@ shr-zero (pos a) h = ap pos (far a 63 h (le-refl 63) ∙ sym (div-zero a))
 shr-zero (negsuc a) h = ap negsuc (far a 63 h (le-refl 63) ∙ sym (div-zero a))
 
 -- what is left before the last place is 0 or -1, of which the upper half is 0
-pub round-far : (v : ℤ) (s : ℕ) → mag v < 2 ^ 63 → 63 < s → roundShift v s ≡ pos 0
-round-far v s h k = round-halves v s (omega arith) ∙ ends v (s - 1) h (omega arith)
+pub round-far : {k : ℕ} (v : ℤ) (s : ℕ) → mag v < 2 ^ k → k < s → roundShift v s ≡ pos 0
+round-far {k} v s h far-out = round-halves v s (omega arith) ∙ ends v (s - 1) h (omega arith)
   where
-    ends : (v : ℤ) (j : ℕ) → mag v < 2 ^ 63 → 63 ≤ j → upper (shrZ v (2 ^ j)) ≡ pos 0
-    ends (pos a) j h k = rw (far a j h k)
-    ends (negsuc a) j h k = rw (far a j h k)
+    ends : (v : ℤ) (j : ℕ) → mag v < 2 ^ k → k ≤ j → upper (shrZ v (2 ^ j)) ≡ pos 0
+    ends (pos a) j h g = rw (far a j h g)
+    ends (negsuc a) j h g = rw (far a j h g)

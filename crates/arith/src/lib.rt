@@ -3,6 +3,7 @@
 // Every function here is total. It answers for each input what its definition over ℤ says (specs/Arith.antt), and no caller owes it anything.
 ghost use mathlib.Core.Path.{_≡_};
 ghost use Prim.Native.Nat.{_^_, min};
+ghost use lib.IntN.{_*ℤ_};
 ghost use lib.Signed.{shrZ};
 ghost use Rattle.arith.specs.Arith.{roundShift, clampZ, sat16Z, modZ, wrapI32, orZero, narrowI16, narrowI32};
 
@@ -19,6 +20,17 @@ pub fn round_shift(v: i64, s: u32) -> i64
     }
     let twice = v >> (s - 1);
     twice - (twice >> 1)
+}
+
+// The same of a product of 16 bits by 32. It is far from the ends of 64 bits, so half of 2^s is added before the shift, and no case is made of s = 0.
+pub fn round_product(a: i16, b: i32, s: u32) -> i64
+    ensures { λ r. ⌜ r ≡ roundShift (a *ℤ b) s ⌝ }
+{
+    if 62 < s {
+        return 0;
+    }
+    let half: i64 = (1 << s) >> 1;
+    ((a as i64) * (b as i64) + half) >> s
 }
 
 // v / 2^s, rounded down. From 63 places on only the sign is left.

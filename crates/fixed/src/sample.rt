@@ -57,8 +57,7 @@ fn sums_at(
     filter::filter(&h[a..b], &g[a..b], &k[a..b], &i[head..end], &q[head..end])
 }
 
-// The symbol reports the gain and the period that the registers have once they stepped. They step behind the filter, so that its loops keep the machine's
-// registers for themselves.
+// The registers step first: the symbol reports the gain and the period that they then have.
 fn with_symbol(
     p: Params,
     h: &[i32],
@@ -80,10 +79,10 @@ fn with_symbol(
         (kept (now (i .entry)) (now (q .entry)) (now (e .exit)) (now (err .exit)) (s .registers) (s .position)) (s .symbol) ⌝ }
 {
     let phase = (r.t_acc >> 18) as usize;
-    let sums = sums_at(p, h, g, k, i, q, w, phase);
     let oldest = queue::oldest(&*e, &*err, w);
     let stepped = r.after_symbol(p, registers::is_due(w.waiting), oldest);
     let registers = stepped.registers;
+    let sums = sums_at(p, h, g, k, i, q, w, phase);
     let symbol = Symbol::make(
         p,
         registers.gain(),

@@ -11,7 +11,7 @@ ghost use Rattle.registers.specs.Correct.{nextV, nextPeriod, nextGain, c
 fn scaled(gain: i16, e: i32, shift: u8) -> i64
     ensures { λ r. ⌜ r ≡ roundShift (gain *ℤ e) shift ⌝ }
 {
-    arith::round_shift((gain as i64) * (e as i64), shift as u32)
+    arith::round_product(gain, e, shift as u32)
 }
 
 // The integrator, moved.

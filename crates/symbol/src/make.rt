@@ -19,11 +19,11 @@ fn output_of(s: Sums) -> Output
     }
 }
 
-// A component times the gain. The product is far from the ends of 64 bits, so half of what is shifted out is added to it first.
+// A component times the gain.
 fn times(gain: u16, x: i16) -> i16
     ensures { λ r. ⌜ r ≡ sat16Z (roundShift (x *ℤ pos gain) 10) ⌝ }
 {
-    arith::sat16(((x as i64) * (gain as i64) + 512) >> 10)
+    arith::sat16(arith::round_product(x, gain as i32, 10))
 }
 
 // An output times the gain.
@@ -55,7 +55,7 @@ fn quantise(p: Params, v: i16) -> i16
 {
     let end: i64 = 1 << below_sign(p.bits);
     arith::clamp(
-        arith::round_shift(v as i64, p.q_shift as u32),
+        arith::round_product(v, 1, p.q_shift as u32),
         0 - end,
         end - 1,
     ) as i16

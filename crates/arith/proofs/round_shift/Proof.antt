@@ -23,7 +23,7 @@ returns c = simp (toZ-ofZ (c .before .fits .v), eq-eqb _ _ (c .if1 .taken))
 returns-2 : tie.Need-returns-2
 returns-2 c =
     let a = c .before .before in
-    sym (round-far (a .args .v) (a .args .s) (a .fits .v .sfits) (omega arith))
+    sym (round-far {k = 63} (a .args .v) (a .args .s) (a .fits .v .sfits) (omega arith))
 
 sub-twice : tie.Need-sub-twice
 sub-twice c = search needs

@@ -71,21 +71,9 @@ cast-phase c =
     subst (λ (z : ℤ). T (nonNeg z) × Fits w64 (natAbs z)) (sym (phase-is (b .args .r .«t_acc») _ (going-at b .whole) (soon b)))
     (tt, record { fits = omega (arith, soon b) })
 
-sums-at-requires : tie.Need-sums-at-requires
-sums-at-requires c κs =
-    let b = c .before .before .before .before in (
-      record {
-        accepted = b .pre .0 .begun .accepted;
-        head = going-at b .head;
-        long-i = b .pre .0 .begun .long-i;
-        long-q = b .pre .0 .begun .long-q;
-      },
-      subst (λ (n : ℕ). n < 64) (sym (phase-at b)) (omega (arith, soon b)),
-    )
-
 oldest-requires : tie.Need-oldest-requires
 oldest-requires c κs =
-    let b = c .before .before .before .before .before .before .before in
+    let b = c .before .before .before .before .before .before in
     ((b .pre .0 .begun .long-e, b .pre .0 .begun .long-err), omega (arith, going-at b .oldest))
 
 is-due-requires : tie.Need-is-due-requires
@@ -98,7 +86,7 @@ after-symbol-requires c κs = search needs
 
 module _ (c : tie.After-after-symbol) where
   abbrev at : tie.Start
-  at = c .before .before .before .before .before .before .before .before .before .before
+  at = c .before .before .before .before .before .before .before .before .before
 
   stepped : c .after-symbol .result ≡ record { registers = left (dueIn (at .args .p) (x at)); made = true }
   stepped =
@@ -110,23 +98,35 @@ module _ (c : tie.After-after-symbol) where
   registers-are : c .after-symbol .result .registers ≡ left (dueIn (at .args .p) (x at))
   registers-are = ap (λ (z : AfterSymbol). z .registers) stepped
 
+sums-at-requires : tie.Need-sums-at-requires
+sums-at-requires c κs =
+    let b = at (c .before) in (
+      record {
+        accepted = b .pre .0 .begun .accepted;
+        head = going-at b .head;
+        long-i = b .pre .0 .begun .long-i;
+        long-q = b .pre .0 .begun .long-q;
+      },
+      subst (λ (n : ℕ). n < 64) (sym (phase-at b)) (omega (arith, soon b)),
+    )
+
 gain-requires : tie.Need-gain-requires
 gain-requires c κs = search needs
 
 cast-make : tie.Need-cast-make
-cast-make c = let b = at (c .before .before) in record { fits = subst (λ (n : ℕ). n < 256) (sym (phase-at b)) (omega (arith, soon b)) }
+cast-make c = let b = at (c .before .before .before) in record { fits = subst (λ (n : ℕ). n < 256) (sym (phase-at b)) (omega (arith, soon b)) }
 
 make-requires : tie.Need-make-requires
 make-requires c κs = search needs
 
 join-requires : tie.Need-join-requires
 join-requires c κs =
-    let b = at (c .before .before .before .before .before .before .before) in
+    let b = at (c .before .before .before .before .before .before .before .before) in
     ((b .pre .0 .begun .long-e, b .pre .0 .begun .long-err), (omega (arith, going-at b .oldest), omega (arith, going-at b .waiting)))
 
 after-symbol-requires-2 : tie.Need-after-symbol-requires-2
 after-symbol-requires-2 c κs =
-    let b = at (c .before .before .before .before .before .before .before .before .before .before) in
+    let b = at (c .before .before .before .before .before .before .before .before .before .before .before) in
     (omega (arith, going-at b .oldest), (omega (arith, going-at b .waiting), b .pre .0 .room))
 
 same-length : tie.Need-same-length
@@ -145,7 +145,7 @@ module _ (c : tie.After-after-symbol2) where
   made = joined .before .before .before .before .before
 
   abbrev moved : tie.After-after-symbol
-  moved = made .before .before .before
+  moved = made .before .before .before .before
 
   abbrev b : tie.Start
   b = at moved
@@ -172,10 +172,10 @@ module _ (c : tie.After-after-symbol2) where
   -- the symbol is made of the gain and the period that the registers then have
   made-is : made .make .result
       ≡ (let d : Registers = left (dueIn (b .args .p) (x b)) in
-      symbolFrom (b .args .p) (d .«gain_acc» / 256) (d .period) (b .args .w .samples) (phase b) (moved .before .before .before .before .before .sums-at .result))
+      symbolFrom (b .args .p) (d .«gain_acc» / 256) (d .period) (b .args .w .samples) (phase b) (made .before .before .sums-at .result))
   made-is =
       let a = b .args in
-      let sums = moved .before .before .before .before .before .sums-at .result in
+      let sums = made .before .before .sums-at .result in
       let d : Registers = left (dueIn (a .p) (x b)) in
       let small : d .«gain_acc» / 256 % 65536 ≡ d .«gain_acc» / 256 = omega (arith, step-gain (b .pre .0)) in
       let gain : made .before .gain .result ≡ d .«gain_acc» / 256 =
@@ -190,7 +190,7 @@ module _ (c : tie.After-after-symbol2) where
       let d : Registers = left (dueIn (a .p) (x b)) in
       made-is
       ∙ ap (symbolFrom (a .p) (d .«gain_acc» / 256) (d .period) (a .w .samples) (phase b))
-      (moved .before .before .before .before .before .sums-at .ensures (f .line) (stands .line))
+      (made .before .before .sums-at .ensures (f .line) (stands .line))
       ∙ stands-symbol (b .pre .0) f stands (phase b) (phase-at b)
 
   makes : MakesSymbol (sheet b) (x b) y (made .make .result)
@@ -210,10 +210,10 @@ with-symbol-spec =
     tie.close
     (tie.spec
     cast-phase
-    sums-at-requires
     oldest-requires
     is-due-requires
     after-symbol-requires
+    sums-at-requires
     gain-requires
     cast-make
     make-requires

@@ -5,10 +5,10 @@ use mathlib.Core.Path.{_≡_, refl, sym, ap, _∙_}
 use mathlib.Core.Bool.{Bool, true, false}
 use native.Mathlib.Omega.{arith}
 use lib.Dec.{leb}
-use lib.IntN.{ℤ, pos, negℤ, _-ℤ_, +ℤ-idl}
+use lib.IntN.{ℤ, pos, negℤ, _-ℤ_, _*ℤ_, one, +ℤ-idl, *ℤ-one}
 use lib.Pow.{pow-pos, pow-mono}
 use lib.Signed.{mag}
-use mir.Syntax.{w16, w64}
+use mir.Syntax.{w16, w32, w64}
 use mir.Val.{SFits, toZ}
 use mir.Facts.{toZ-ofZ, toZ-pos, sfits-widen}
 use borrow.Author.Needs.{needs}
@@ -16,7 +16,7 @@ use borrow.Author.Tests.{leb-true, leb-false}
 use Rattle.arith.specs.Arith.{clampZ, roundShift}
 use Rattle.arith.proofs.Magnitude.{clamp-mag}
 use Rattle.arith.proofs.Order.{P, N, eq-pn, minus-pn, neg-P, neg-N, fit-pn, clamp-inside}
-use Rattle.arith.proofs.Bits.{held, widens, widened}
+use Rattle.arith.proofs.Bits.{held}
 use Rattle.arith.proofs.Rounding.{round-fits}
 use Rattle.arith.proofs.Widths.{narrows, narrowed}
 use Rattle.symbol.specs.Make.{quantised}
@@ -91,14 +91,11 @@ cast-end c = search needs
 shl-end : tie.Need-shl-end
 shl-end c = search needs
 
-cast-round-shift : tie.Need-cast-round-shift
-cast-round-shift c = widens w64 tt (c .before .fits .v)
+cast-round-product : tie.Need-cast-round-product
+cast-round-product c = search needs
 
-cast-round-shift-2 : tie.Need-cast-round-shift-2
-cast-round-shift-2 c = search needs
-
-round-shift-requires : tie.Need-round-shift-requires
-round-shift-requires c κs = search needs
+round-product-requires : tie.Need-round-product-requires
+round-product-requires c κs = search needs
 
 sub-clamp : tie.Need-sub-clamp
 sub-clamp c =
@@ -121,12 +118,16 @@ clamped : (c : tie.After-clamp)
     let a = b .before .args in
     let j = b .below-sign .result in
     c .clamp .result ≡ clampZ (roundShift (a .v) (a .p .«q_shift»)) (negℤ (pos (2 ^ j))) (pos (2 ^ j - 1))
+unfolding one
 clamped c =
-    let r = c .before .round-shift in
+    let r = c .before .round-product in
     let b = c .before .before .before in
     let j = b .below-sign .result in
     let h = few b in
-    let rounded : r .result ≡ _ = simp (widened w64 tt (b .before .fits .v)) at (r .ensures) in
+    let v : ℤ = b .before .args .v in
+    let shift : ℕ = b .before .args .p .«q_shift» in
+    let whole : r .result ≡ roundShift (v *ℤ pos 1) shift = simp (toZ-ofZ (b .before .fits .v), toZ-pos w32 {n = 1} (omega arith)) at (r .ensures) in
+    let rounded : r .result ≡ roundShift v shift = whole ∙ ap (λ (z : ℤ). roundShift z shift) (*ℤ-one v) in
     let ends = simp (held w64 (r .result) (r .ok), end-is j h, +ℤ-idl) at (c .clamp .ensures) in
     let told : c .clamp .result ≡ _ = simp (high-is j h, toZ-ofZ (sfits-widen {w′ = w64} tt (low-fits j h)), toZ-ofZ (sfits-widen {w′ = w64} tt (high-fits j h))) at ends in
     simp rounded at told
@@ -153,9 +154,8 @@ quantise-spec =
     below-sign-requires
     cast-end
     shl-end
-    cast-round-shift
-    cast-round-shift-2
-    round-shift-requires
+    cast-round-product
+    round-product-requires
     sub-clamp
     sub-clamp-2
     clamp-requires
