@@ -7,28 +7,28 @@ use lib.IntN.{ℤ, pos, negsuc, _+ℤ_, _-ℤ_}
 use lib.Signed.{ltZ, leZ, shrZ}
 
 -- R(v, s): v divided by 2^s and rounded to the nearest whole number, a half upward; nothing is done at s = 0.
--- (Document 01, 'A sample's way', a symbol: the two rules of R.)
+-- (RULES 2.2)
 unfoldable pub roundShift : ℤ → ℕ → ℤ
 roundShift v s = cond (eqb s 0) v (shrZ (v +ℤ pos (2 ^ (s - 1))) (2 ^ s))
 
 -- v held between lo and hi: the end that it passes, or v itself.
--- (Document 01, 'A sample's way': every "clamped to".)
+-- (RULES 2.3)
 unfoldable pub clampZ : ℤ → ℤ → ℤ → ℤ
 clampZ v lo hi = cond (ltZ v lo) lo (cond (ltZ hi v) hi v)
 
 -- v held to what 16 bits signed can say, which reaches one further down than up.
--- (Document 01, 'A sample's way', the filter: "clamped to 16 bits signed".)
+-- (RULES 2.4)
 unfoldable pub sat16Z : ℤ → ℤ
 sat16Z v = clampZ v (negsuc 32767) (pos 32767)
 
 -- What is left of v after whole multiples of m, from 0 to m - 1 also where v is below zero.
--- (Document 01, 'A sample's way', step 1: the nco "modulo 2^32".)
+-- (RULES 2.5)
 unfoldable pub modZ : ℤ → ℕ → ℕ
 modZ (pos n) m = n % m
 modZ (negsuc n) m = m - 1 - n % m
 
 -- The number from -2^31 to 2^31 - 1 that differs from v by a multiple of 2^32.
--- (Document 01, 'A sample's way', err: "reduced to 32 bits signed modulo 2^32".)
+-- (RULES 2.5)
 unfoldable pub wrapI32 : ℤ → ℤ
 wrapI32 v = pos (modZ (v +ℤ pos (2 ^ 31)) (2 ^ 32)) -ℤ pos (2 ^ 31)
 

@@ -1,7 +1,7 @@
 -- What each call of the C interface answers, for any places, banks and buffers. The answers are those of judging, starting, the block, reading, the offset,
 -- float samples and a design with its sheet; ours is only how they cross: refusals by number alone, sheets and states as places, and no buffer touched by a
 -- call that is refused.
--- (Document 01: 'The sheet', 'A sample's way', 'A block', 'Around the path'.)
+-- (RULES 8.5)
 use Prim.Native.Nat.{ℕ, _%_}
 use mathlib.Core.Bool.{cond}
 use mathlib.Core.List.{List, _∷_, _++_, map}

@@ -8,7 +8,7 @@ use places::ReadSheet;
 ghost use mathlib.Core.Path.{_≡_};
 ghost use Rattle.calls.specs.Calls.{judgeNumber, startAnswer, blockAnswer, readAnswer, offsetAnswer, sampleAnswer, designAnswer};
 
-// The number of the sheet's first fault, or 0 (document 01: judging).
+// The number of the sheet's first fault, or 0 (RULES 1.4).
 pub fn judge(sheet: &[i64], h: &[i32], g: &[i32], k: &[i32]) -> u32
     ensures { λ r. ⌜ r ≡ judgeNumber (now (sheet .entry)) (now (h .entry)) (now (g .entry)) (now (k .entry)) ⌝ }
 {
@@ -21,7 +21,7 @@ pub fn judge(sheet: &[i64], h: &[i32], g: &[i32], k: &[i32]) -> u32
     }
 }
 
-// Writes the fresh state of a sheet (document 01: starting).
+// Writes the fresh state of a sheet (RULES 3.1).
 pub fn start(sheet: &[i64], h: &[i32], g: &[i32], k: &[i32], state: &mut [i64]) -> u32
     ensures { λ r. ⌜ record { number = r; places = now (state .exit) }
         ≡ startAnswer (now (sheet .entry)) (now (h .entry)) (now (g .entry)) (now (k .entry)) (now (state .entry)) ⌝ }
@@ -41,7 +41,7 @@ pub fn start(sheet: &[i64], h: &[i32], g: &[i32], k: &[i32], state: &mut [i64]) 
     }
 }
 
-// Takes a block of samples, I before Q, from the state on; writes 20 places a symbol and the state after it (document 01: a block). Answers
+// Takes a block of samples, I before Q, from the state on; writes 20 places a symbol and the state after it (RULES 4). Answers
 // how many symbols it wrote, or the refusal's number below zero.
 pub fn block(
     sheet: &[i64],
@@ -74,7 +74,7 @@ pub fn block(
     }
 }
 
-// Writes period, gain and symbols of a state to three places (document 01: reading).
+// Writes period, gain and symbols of a state to three places (RULES 4.3).
 pub fn read(
     sheet: &[i64],
     h: &[i32],
@@ -106,7 +106,7 @@ pub fn read(
     }
 }
 
-// Writes the offset of a period to one place (document 01: the offset).
+// Writes the offset of a period to one place (RULES 6.1).
 pub fn offset(
     sheet: &[i64],
     h: &[i32],
@@ -137,7 +137,7 @@ pub fn offset(
     }
 }
 
-// Takes the components of float samples, I before Q, as the front end does (document 01: a float sample). Value n is made of float n.
+// Takes the components of float samples, I before Q, as the front end does (RULES 6.2). Value n is made of float n.
 pub fn sample(floats: &[f32], values: &mut [i16]) -> u32
     ensures { λ r. ⌜ record { number = r; places = now (values .exit) } ≡ sampleAnswer (now (floats .entry)) (now (values .entry)) ⌝ }
 {
@@ -155,7 +155,7 @@ pub fn sample(floats: &[f32], values: &mut [i16]) -> u32
     0
 }
 
-// Writes the sheet of a design to the first 17 places (document 01: design and judge together). The design comes as five rates and eight fields.
+// Writes the sheet of a design to the first 17 places (RULES 6.4). The design comes as five rates and eight fields.
 pub fn design(
     rates: &[f64],
     fields: &[i64],

@@ -1,5 +1,5 @@
 -- A design of two samples in a symbol, and its registers but for four of them, for the case that makes registers.
--- (Document 01, 'Proved cases', P9.)
+-- (RULES 9, P9)
 use Prim.Native.Nat.{ℕ}
 use mathlib.Core.Bool.{false}
 use lib.IntN.{pos, negsuc}

@@ -1,5 +1,5 @@
 -- A small accepted sheet, and the same with one thing changed, for the cases that judge whole sheets.
--- (Document 01, 'The symbol program': the whole case.)
+-- (RULES 9, the whole case)
 use Prim.Native.Nat.{ℕ, zero, suc}
 use mathlib.Core.List.{List, [], _∷_, _++_}
 use lib.ListN.{drop}

@@ -1,5 +1,5 @@
 -- The worked cases as one claim.
--- (Document 01, 'Proved cases', P1 to P10, in their order.)
+-- (RULES 9, P1 to P10, in their order.)
 use Prim.Native.Nat.{ℕ, zero, suc}
 use mathlib.Core.Path.{_≡_}
 use mathlib.Core.Bool.{cond}

@@ -19,7 +19,7 @@ firstOr [] a = accepted a
 firstOr (r ∷ rs) a = refused r
 
 -- ---- the registers of a design
--- (Document 01, 'Registers of a design'.)
+-- (RULES 6.3)
 
 -- 14: at least 1.0625 samples in a symbol, and fewer than four.
 unfoldable pub goodSps : Float → Bool
@@ -48,7 +48,7 @@ unfoldable pub designOf : Design → Answer DesignRegisters
 designOf d = firstOr (designFaults d) (registersOf d (spsOf d))
 
 -- ---- the whole sheet
--- (Document 01, 'Design and judge together'.)
+-- (RULES 6.4)
 
 -- The registers with the gains that were lent.
 unfoldable pub paramsOf : DesignRegisters → Gains → Params

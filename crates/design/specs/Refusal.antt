@@ -27,7 +27,7 @@ abbrev pub judgeRefusal : Refusal → DesignRefusal
 judgeRefusal r = record { number = r .number; carries = r .carries; floats = [] }
 
 -- The number of each case of a design's refusal, and the float that it carries.
--- (Document 01, 'Registers of a design': 14 to 17, and what is carried.)
+-- (RULES 6.3)
 abbrev pub designRefusal : DesignError → DesignRefusal
 designRefusal (SamplesPerSymbol sps) = floatRefusal 14 (sps ∷ [])
 designRefusal Taps = floatRefusal 15 []
@@ -35,7 +35,7 @@ designRefusal Bits = floatRefusal 16 []
 designRefusal (Trim trim) = floatRefusal 17 (trim ∷ [])
 
 -- The same where a sheet is made from a design: the design's, or the judge's.
--- (Document 01, 'Design and judge together'.)
+-- (RULES 6.4)
 abbrev pub sheetRefusal : SheetError → DesignRefusal
 sheetRefusal (SheetError.Design e) = designRefusal e
 sheetRefusal (SheetError.Params e) = judgeRefusal (errorRefusal e)

@@ -11,7 +11,7 @@ ghost use Rattle.design.specs.Refusal.{designRefusal, sheetRefusal, desi
 ghost use Rattle.design.specs.Steps.{spsOf, registersOf};
 ghost use Rattle.design.specs.Design.{goodSps, goodTrim, designOf, paramsOf, judgedOf, sheetOfDesign};
 
-// What a receiver is built for (document 01: a design).
+// What a receiver is built for (RULES 6.3).
 pub struct Design {
     // Samples and symbols a second.
     pub sample_rate: f64,
@@ -53,7 +53,7 @@ pub struct Gains {
     pub q_shift: u8,
 }
 
-// Why a design is refused (document 01: refusals 14 to 17).
+// Why a design is refused (RULES 6.3).
 pub enum DesignError {
     SamplesPerSymbol { sps: f64 },
     Taps,
@@ -147,7 +147,7 @@ impl Design {
         self.sample_rate / self.symbol_rate
     }
 
-    // The registers of a design (document 01: 14 to 17, then the steps).
+    // The registers of a design (RULES 6.3).
     pub fn registers(self) -> DesignVerdict
         ensures { λ r. ⌜ designAnswer r ≡ designOf self ⌝ }
     {
@@ -168,7 +168,7 @@ impl Design {
         DesignVerdict::Accepted(self.registers_at(sps))
     }
 
-    // The whole sheet of a design, judged with its banks (document 01: design and judge together).
+    // The whole sheet of a design, judged with its banks (RULES 6.4).
     pub fn params(self, gains: Gains, h: &[i32], g: &[i32], k: &[i32]) -> SheetVerdict
         ensures { λ r. ⌜ sheetAnswer r ≡ sheetOfDesign self gains (now (h .entry)) (now (g .entry)) (now (k .entry)) ⌝ }
     {

@@ -1,5 +1,5 @@
 -- The filter: each bank's row for the phase, coefficient by coefficient times the samples of the line, newest first.
--- (Document 01, 'A sample's way': "the three banks' sums for I and Q".)
+-- (RULES 3.7)
 use Prim.Native.Nat.{ℕ, zero, suc}
 use mathlib.Core.List.{List, [], _∷_}
 use lib.ListN.{getD}

@@ -1,5 +1,5 @@
 -- The line of the last mixed samples: a ring in the first `taps` of 64 places, whose newest stands at `head`.
--- (Document 01, 'A sample's way', step 2, and 'From the Rust's forms to ours': the line.)
+-- (RULES 3.4)
 use Prim.Native.Nat.{ℕ, _+_, _-_, _%_}
 use mathlib.Core.Bool.{cond}
 use mathlib.Core.List.{List}

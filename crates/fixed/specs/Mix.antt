@@ -1,5 +1,5 @@
 -- The mixer: a sample is turned by the phase word, and the phase word goes on.
--- (Document 01, 'A sample's way', step 1.)
+-- (RULES 3.3)
 use Prim.Native.Nat.{ℕ, _+_, _/_, _^_}
 use lib.IntN.{ℤ, pos, _+ℤ_, _-ℤ_, _*ℤ_}
 use lib.Signed.{shrZ}

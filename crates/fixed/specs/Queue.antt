@@ -1,5 +1,5 @@
 -- The waiting errors: a ring of 24 places, the oldest's position, and how many wait.
--- (Document 01, 'From the Rust's forms to ours': the waiting errors.)
+-- (RULES 3.6)
 use Prim.Native.Nat.{ℕ, _+_, _%_}
 use mathlib.Core.Bool.{Bool, cond}
 use mathlib.Core.List.{List}

@@ -1,5 +1,5 @@
 -- One sample: it is mixed and joins the line, a symbol is made if one falls due, and the time goes on by a sample.
--- (Document 01, 'A sample's way', steps 1 to 3.)
+-- (RULES 3.3 to 3.6)
 use Prim.Native.Nat.{ℕ, _+_, _/_, _^_}
 use mathlib.Core.Bool.{Bool, cond}
 use mathlib.Core.List.{List, [], _∷_, _++_}
@@ -44,7 +44,7 @@ unfoldable pub due : Params → Frontend → Registers
 due p f = found p (f .registers) (isFull f) (oldestErrors f)
 
 -- The symbol that falls due in this state, once the sample has joined the line: its phase is the sixty-fourth of the sample that the time says.
--- (Document 01, 'A sample's way': "A symbol".)
+-- (RULES 3.5)
 unfoldable pub symbolOf : Sheet → Frontend → Symbol
 symbolOf s f =
     let p : Params = s .params in

@@ -1,4 +1,4 @@
-// A block: samples in, symbols out (document 01: 'A block').
+// A block: samples in, symbols out (RULES 4).
 //
 // The line and the waiting errors are taken out of the state into arrays of numbers, lent to each sample in turn, and put back at the end.
 use crate::line;

@@ -1,4 +1,4 @@
-// The filter: the sums of three rows over the line (document 01: "the three banks' sums for I and Q").
+// The filter: the sums of three rows over the line (RULES 3.7).
 //
 // The machine multiplies unsigned numbers two at a time. So the numbers of the line come raised by 2^31, and each coefficient is raised here by 2^17. What
 // that adds to a row's sum, 2^31 times the sum of its coefficients and 2^17 times the sum of the line's numbers, is taken off at the end.

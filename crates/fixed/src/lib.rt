@@ -49,7 +49,7 @@ pub struct Processed {
     pub count: usize,
 }
 
-// A block of samples, I before Q; the places of its symbols go to `out`, 20 each (document 01: a block).
+// A block of samples, I before Q; the places of its symbols go to `out`, 20 each (RULES 4).
 pub fn process(
     f: Frontend,
     p: Params,

@@ -1,4 +1,4 @@
-// The line of the last mixed samples, as a block keeps it while it runs (document 01: step 2 of a sample's way).
+// The line of the last mixed samples, as a block keeps it while it runs (RULES 3.4).
 //
 // Each component is an array of its own, in which the `taps` places of the ring stand twice in a row: from the newest's position on, `taps` numbers can then
 // be read, newest first, without a wrap. The numbers are raised by 2^31, so that none is below zero: the machine multiplies unsigned numbers two at a time.

@@ -1,4 +1,4 @@
-// The mixer: a sample is turned by the phase word, and the phase word goes on (document 01: step 1 of a sample's way).
+// The mixer: a sample is turned by the phase word, and the phase word goes on (RULES 3.3).
 use state::Pair;
 ghost use mathlib.Core.Path.{_≡_};
 ghost use Prim.Native.Nat.{_^_, _≤_};

@@ -1,4 +1,4 @@
-// One sample: it is mixed and joins the line, a symbol is made if one falls due, and the time goes on (document 01: a sample's way).
+// One sample: it is mixed and joins the line, a symbol is made if one falls due, and the time goes on (RULES 3).
 use crate::filter;
 use crate::line;
 use crate::mix;

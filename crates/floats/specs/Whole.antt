@@ -13,7 +13,7 @@ nearestUp a d = a / d + cond (ltb (2 * (a % d)) d) 0 1
 
 -- The whole number nearest to x, and of two that are as near the one farther from zero. A NaN and the infinities stay what they are.
 -- It is the number that counts here, and not how the format would write it: only casts read it, and they read the number.
--- (Document 01, 'A float sample': the ties; 'Registers of a design': each `round` of the steps.)
+-- (RULES 6.2, 6.3)
 unfoldable pub roundAway : Float → Float
 unfolding nearestUp
 roundAway nan = nan

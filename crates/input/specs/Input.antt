@@ -1,5 +1,5 @@
 -- What the front end takes of a float sample, whose full scale is ±1. Each component is made by itself.
--- (Document 01, 'A float sample'.)
+-- (RULES 6.2)
 use mathlib.Core.Bool.{false}
 use lib.IntN.{ℤ, pos}
 use lib.Ieee.{Float, fin, binary32, mul, toSigned}

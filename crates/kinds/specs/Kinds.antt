@@ -1,5 +1,5 @@
 -- The kinds of fields, by number, and which numbers each takes of those that a place can hold: the signed ones of 64 bits.
--- (Ours: document 01 says how symbols fill places, and leaves open how sheets and states do.)
+-- (RULES 8.1)
 use Prim.Native.Nat.{ℕ, _<_}
 use mathlib.Core.Path.{_≡_}
 use mathlib.Core.Bool.{Bool, true, false, cond, _&&_}
@@ -62,7 +62,7 @@ areKinds (kind ∷ kinds) [] = false
 areKinds (kind ∷ kinds) (z ∷ l) = isKind kind z && areKinds kinds l
 
 -- 18: there is a place for each kind, and no other. 19: each takes a number of its kind. 0 where both hold.
--- (Document 01, 'The symbol program', has the same two numbers for a line with another number of fields and for a value outside its type.)
+-- (RULES 8.1; 7.1 has the same two numbers for a line with another number of fields and for a value outside its type.)
 unfoldable pub placesNumber : List ℕ → List ℤ → ℕ
 placesNumber kinds l = cond (eqb (length l) (length kinds)) (cond (areKinds kinds l) 0 19) 18
 

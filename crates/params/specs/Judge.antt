@@ -1,5 +1,5 @@
 -- Judging a sheet with its banks: all of its faults, in the order in which they are looked for. The first is the answer.
--- (Document 01, 'The sheet', judging. A number before a definition is that of the refusal it decides.)
+-- (RULES 1.4. A number before a definition is that of the refusal it decides.)
 use Prim.Native.Nat.{ℕ, zero, suc, _+_, _-_, _*_, _/_, _%_, min}
 use mathlib.Core.Bool.{Bool, true, cond, _&&_, _||_}
 use mathlib.Core.List.{List, [], _∷_, _++_, flatten}
@@ -79,7 +79,7 @@ rowsFaults taps bank cs r (suc n) = rowFaults bank r (rowOf taps cs r) ++ rowsFa
 -- ---- the timing detector's places
 
 -- Whether tap t is one of the detector's: the eight in the middle of a row, or all of a row that has fewer.
--- (Document 01, 'The sheet': a detector place.)
+-- (RULES 1.3)
 unfoldable pub detectorPlace : ℕ → ℕ → Bool
 detectorPlace taps t =
     let low : ℕ = (taps - 8) / 2 in

@@ -1,5 +1,5 @@
 -- The offset of a period from the nominal one.
--- (Document 01, 'Around the path': the offset.)
+-- (RULES 6.1)
 use Prim.Native.Nat.{ℕ}
 use mathlib.Core.Bool.{cond, _&&_}
 use mathlib.Core.List.{[], _++_}

@@ -19,7 +19,7 @@ abbrev pub nothing : Refusal
 nothing = refusal 0 []
 
 -- The number of each case of a sheet's refusal, and its values in the order in which they are carried.
--- (Document 01, 'The sheet', judging: the last sentence.)
+-- (RULES 1.4)
 abbrev pub errorRefusal : ParamError → Refusal
 errorRefusal Taps = refusal 1 []
 errorRefusal BankLength = refusal 2 []

@@ -11,7 +11,7 @@ ghost use Rattle.arith.specs.Arith.{within};
 ghost use Rattle.params.specs.Judge.{sheetOf, firstOf, goodTaps, lengthFaults, goodPeriods, fieldFaults, judged};
 ghost use Rattle.params.specs.Offset.{offsetRefusal, offsetParts, partsOf, offsetOf};
 
-// The run-time parameters (document 01: the sheet). The banks h, g and k are lent beside it, each 64 rows of `taps` numbers, row by row.
+// The run-time parameters (RULES 1.1). The banks h, g and k are lent beside it, each 64 rows of `taps` numbers, row by row.
 pub struct Params {
     // Taps of a row: even, 4 to 64.
     pub taps: u32,
@@ -41,7 +41,7 @@ pub struct Params {
     pub block_log2: u8,
 }
 
-// Why a sheet is refused (document 01: refusals 1 to 8). A bank is 0 for h, 1 for g and 2 for k; a phase is a row of it.
+// Why a sheet is refused (RULES 1.4). A bank is 0 for h, 1 for g and 2 for k; a phase is a row of it.
 pub enum ParamError {
     Taps,
     BankLength,
@@ -60,7 +60,7 @@ pub enum Verdict {
 }
 
 // What the offset of a period answers beside its value: its sheet may be refused, or the period be one that the loop never sets
-// (document 01: refusal 13).
+// (RULES 6.1).
 pub enum OffsetVerdict {
     Accepted,
     Params(ParamError),
@@ -187,7 +187,7 @@ fn is_integrator_end(v: i32) -> bool
 }
 
 impl Params {
-    // Checks all that the arithmetic of the path relies on (document 01: judging).
+    // Checks all that the arithmetic of the path relies on (RULES 1.4).
     pub fn validate(self, h: &[i32], g: &[i32], k: &[i32]) -> Verdict
         ensures { λ r. ⌜ verdictRefusal r ≡ judged (sheetOf self (now (h .entry)) (now (g .entry)) (now (k .entry))) ⌝ }
     {
@@ -202,7 +202,7 @@ impl Params {
         self.check_fields()
     }
 
-    // How far a period lies from the nominal one (document 01: the offset).
+    // How far a period lies from the nominal one (RULES 6.1).
     pub fn offset(self, h: &[i32], g: &[i32], k: &[i32], period: u32) -> Offset
         ensures { λ r. ⌜ offsetParts r ≡ offsetOf (sheetOf self (now (h .entry)) (now (g .entry)) (now (k .entry))) period ⌝ }
     {

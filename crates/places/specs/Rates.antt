@@ -1,5 +1,5 @@
 -- A design as places: its five rates, which are floats, and eight fields, of which the last five are the gains that a design leaves open.
--- (Document 01, 'Registers of a design' and 'Design and judge together': the parts and their types. That they cross so, and in this order, is ours.)
+-- (RULES 8.4)
 use Prim.Native.Nat.{ℕ}
 use mathlib.Core.Bool.{cond}
 use mathlib.Core.List.{List, [], _∷_}

@@ -1,5 +1,5 @@
--- A sheet as 17 places, its fields in the order in which document 01 lists them.
--- (Document 01, 'The sheet': the fields and their types. That a sheet crosses as places is ours.)
+-- A sheet as 17 places, its fields in their order (RULES 1.1).
+-- (RULES 8.2)
 use Prim.Native.Nat.{ℕ}
 use mathlib.Core.Bool.{cond}
 use mathlib.Core.List.{List, [], _∷_, _++_}

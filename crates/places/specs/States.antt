@@ -1,5 +1,5 @@
 -- A state as 186 places: nco, t, v, period, gain accumulator, symbols, the line's position, the queue's position and count, samples; then the line's 64 pairs
--- and the 24 pairs of waiting errors, all as they are stored. (Document 01, 'From the Rust's forms to ours': the parts of a state. Their order here is ours.)
+-- and the 24 pairs of waiting errors, all as they are stored. (RULES 8.3)
 use Prim.Native.Nat.{ℕ}
 use mathlib.Core.Bool.{Bool, cond, _&&_}
 use mathlib.Core.List.{List, [], _∷_, _++_}

@@ -1,4 +1,4 @@
-// A sheet as 17 places, its fields in the order in which document 01 lists them.
+// A sheet as 17 places, its fields in their order (RULES 1.1).
 use crate::ReadSheet;
 use crate::numbers;
 use params::Params;

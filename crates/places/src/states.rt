@@ -33,7 +33,7 @@ fn state_kinds() -> [u8; 186]
     types
 }
 
-// Whether the places are those of a state. Whether a block can go on from it is looked at by the block (document 01: refusal 9).
+// Whether the places are those of a state. Whether a block can go on from it is looked at by the block (RULES 4.1).
 fn fits(places: &[i64]) -> bool
     ensures { λ r. ⌜ r ≡ stateFits (now (places .entry)) ⌝ }
 {

@@ -1,5 +1,5 @@
 -- How the errors of one symbol move the registers: the integrator, and by it the period, and the gain accumulator.
--- (Document 01, 'A sample's way', a symbol: "If 24 errors wait".)
+-- (RULES 3.6)
 use Prim.Native.Nat.{ℕ, _^_}
 use lib.IntN.{ℤ, pos, negℤ, natAbs, _+ℤ_, _*ℤ_}
 use lib.Signed.{shrZ}

@@ -1,5 +1,5 @@
 -- A symbol's step on the six registers, of any registers and any sheet: they change as one group, or are left as they are.
--- (Document 01, 'A sample's way', a symbol: the six loop registers.)
+-- (RULES 3.11)
 use Prim.Native.Nat.{ℕ, _+_}
 use mathlib.Core.Bool.{Bool, true, false, cond, _&&_}
 use lib.Dec.{eqb, ltb}

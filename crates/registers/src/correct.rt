@@ -1,4 +1,4 @@
-// The loop: how the errors of one symbol move the period and the gain (document 01: "If 24 errors wait").
+// The loop: how the errors of one symbol move the period and the gain (RULES 3.6).
 use crate::Registers;
 use params::Params;
 ghost use mathlib.Core.Path.{_≡_};

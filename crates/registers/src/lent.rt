@@ -1,4 +1,4 @@
-// The six loop registers, lent: they change as one group behind a `&mut` (document 01: the six loop registers, once the core is there).
+// The six loop registers, lent: they change as one group behind a `&mut` (RULES 3.11).
 use crate::AfterSymbol;
 use crate::Pending;
 use crate::Registers;

@@ -1,4 +1,4 @@
-// A symbol's step on the six registers: they change as one group, whatever they hold (document 01: the six loop registers).
+// A symbol's step on the six registers: they change as one group, whatever they hold (RULES 3.11).
 use crate::AfterSymbol;
 use crate::LOOP_DELAY;
 use crate::Pending;

@@ -1,4 +1,4 @@
-// Refusals in the numbers that a row has for them: a refusal's number (document 01) and what it carries, or 0.
+// Refusals in the numbers that a row has for them: a refusal's number (docs/REFUSALS.md) and what it carries, or 0.
 use crate::rows;
 use params::ParamError;
 ghost use mathlib.Core.Path.{_≡_};

@@ -1,4 +1,4 @@
-// The answers of calls in the numbers that a row has for them: a refusal's number (document 01: 1 to 12) and what it carries, or 0.
+// The answers of calls in the numbers that a row has for them: a refusal's number (RULES 1.4, 4.1) and what it carries, or 0.
 use params::Verdict;
 use replay::answer;
 use replay::answer::Answer;

@@ -1,5 +1,5 @@
 -- Reading a state: period, gain and symbol count.
--- (Document 01, 'A block': reading.)
+-- (RULES 4.3)
 use Prim.Native.Nat.{ℕ, _/_}
 use mathlib.Core.Bool.{cond}
 use lib.Dec.{eqb}

@@ -31,7 +31,7 @@ atRest period gain = record {
 }
 
 -- The fresh state: at rest, with the sheet's nominal period and first gain.
--- (Document 01, 'A sample's way': fresh state.)
+-- (RULES 3.1)
 unfoldable pub fresh : Params → Frontend
 fresh p = atRest (p .«period_nominal») (p .«agc_init»)
 
@@ -41,7 +41,7 @@ pub record Start : Type 0 where
   pub state : Frontend
 
 -- Starting: the fresh state where the sheet is accepted, and zeros throughout where it is refused.
--- (Document 01, 'A sample's way': starting.)
+-- (RULES 3.1)
 unfoldable pub startOf : Sheet → Start
 startOf s =
     let r : Refusal = judged s in

@@ -16,10 +16,10 @@ pub struct Pair {
     pub q: i32,
 }
 
-// All that is kept between samples (document 01: the state).
+// All that is kept between samples (RULES 3.1).
 pub struct Frontend {
     pub registers: Registers,
-    // The last `taps` mixed samples, and the newest's position, which falls modulo taps (document 01: the line).
+    // The last `taps` mixed samples, and the newest's position, which falls modulo taps (RULES 3.4).
     pub line: [Pair; 64],
     pub head: usize,
     // The waiting errors, a ring of 24: the oldest's position and how many wait.
@@ -38,7 +38,7 @@ pub struct Position {
     pub samples: u64,
 }
 
-// What a call on a state answers beside its result (document 01: refusals 1 to 12).
+// What a call on a state answers beside its result (RULES 1.4, 4.1).
 pub enum FrontendVerdict {
     Accepted,
     Params(ParamError),

@@ -8,7 +8,7 @@ ghost use Rattle.params.specs.Judge.{sheetOf};
 ghost use Rattle.state.specs.Read.{readOf, reading};
 
 impl Frontend {
-    // Reading a state (document 01: reading).
+    // Reading a state (RULES 4.3).
     pub fn read(self, p: Params, h: &[i32], g: &[i32], k: &[i32]) -> Reading
         ensures { λ r. ⌜ reading r ≡ readOf (sheetOf p (now (h .entry)) (now (g .entry)) (now (k .entry))) self ⌝ }
     {

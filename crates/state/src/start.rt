@@ -36,7 +36,7 @@ impl Frontend {
         }
     }
 
-    // Starting (document 01: fresh state).
+    // Starting (RULES 3.1).
     pub fn new(p: Params, h: &[i32], g: &[i32], k: &[i32]) -> Started
         ensures { λ r. ⌜ started r ≡ startOf (sheetOf p (now (h .entry)) (now (g .entry)) (now (k .entry))) ⌝ }
     {

@@ -1,5 +1,5 @@
 -- What a symbol is made of: the filters' outputs, the same times the gain, the quantised components and the errors.
--- (Document 01, 'A sample's way': "A symbol", from its outputs to its errors.)
+-- (RULES 3.8, 3.9)
 use Prim.Native.Nat.{ℕ, _-_, _^_}
 use mathlib.Core.List.{List}
 use lib.ListN.{getD}

@@ -8,7 +8,7 @@ use lib.IntN.{ℤ, pos}
 use Rattle.symbol.specs.declared.Symbol.{Symbol}
 
 -- A symbol's 20 places.
--- (Document 01, 'A sample's way': "A symbol", its 20 places.)
+-- (RULES 3.10)
 unfoldable pub placesOf : Symbol → List ℤ
 placesOf y =
     pos (y .sample) ∷ pos (y .phase) ∷ y .y .i ∷ y .y .q ∷ y .dy .i ∷ y .dy .q ∷ y .yk .i ∷ y .yk .q ∷ pos (y .gain) ∷ pos (y .period)

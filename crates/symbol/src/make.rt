@@ -1,4 +1,4 @@
-// What a symbol is made of, from the filters' sums to its errors (document 01: "A symbol", from its outputs to its errors).
+// What a symbol is made of, from the filters' sums to its errors (RULES 3.8, 3.9).
 use crate::Output;
 use crate::Sums;
 use crate::Symbol;

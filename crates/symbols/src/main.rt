@@ -1,4 +1,4 @@
-// The symbol program: a sheet and samples in decimal on standard input, each symbol's places on standard output (document 01: the symbol program).
+// The symbol program: a sheet and samples in decimal on standard input, each symbol's places on standard output (RULES 7.2, 7.3).
 //
 // The input goes through one buffer, line by line (input.rt). The first 193 lines are the sheet with its banks (sheet.rt); then the pairs go through the front
 // end in blocks (run.rt), and their symbols through a second buffer to the output (output.rt). The memory is the same however long the input is.

@@ -30,7 +30,7 @@ quarter =
     0 ∷ []
 
 -- The wheel at step k, indices modulo 1,024: down the first quarter, on down below zero, and back up the same way.
--- (Document 01, 'A sample's way': the cosine wheel, whose entries are those of `cos_table`.)
+-- (RULES 3.2)
 unfoldable pub wheel : ℕ → ℤ
 wheel k =
     let i : ℕ = k % 1024 in
@@ -49,7 +49,7 @@ wheelTable = entries 0 1024
 
 -- What makes a wheel w a cosine of amplitude 32767: its height at 0 and at a quarter, that half a turn negates it, that it is the same to both sides of 0, that it
 -- falls or stays level over half a turn, and that it and its sine (three quarters on) lie on the circle, up to rounding.
--- (Document 01, 'A sample's way': "Proved of the whole wheel w", each clause in its order. -k is any j with k + j a multiple of 1,024.)
+-- (RULES 3.2, each clause in its order. -k is any j with k + j a multiple of 1,024.)
 pub record CosineRule (w : ℕ → ℤ) : Type 0 where
   pub around : (k : ℕ) → w (k % 1024) ≡ w k
   pub at-zero : w 0 ≡ pos 32767

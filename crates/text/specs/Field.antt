@@ -1,5 +1,5 @@
 -- A field as one of the types of crates/kinds.
--- (Document 01, 'The symbol program': 18, wrong form; 19, a value outside its type. 'The sheet' and 'A block' give the types.)
+-- (RULES 7.1)
 use Prim.Native.Nat.{ℕ, _+_, _^_, min}
 use mathlib.Core.List.{List, [], _∷_}
 use mathlib.Core.Bool.{true, false, cond}

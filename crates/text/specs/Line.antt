@@ -1,5 +1,5 @@
 -- A line: where it ends, its fields, and what reading them answers and leaves.
--- (Document 01, 'The symbol program': commas, no quoting; LF after at most 1,024 bytes; 18 before 19.)
+-- (RULES 7.1)
 use Prim.Native.Nat.{ℕ, max}
 use mathlib.Core.Path.{_≡_}
 use mathlib.Core.List.{List, [], _∷_, _++_}

@@ -1,5 +1,5 @@
 -- Whole numbers in decimal, as lists of bytes: how they are read and how they are written. There is no limit to their digits.
--- (Document 01, 'The symbol program': fields are decimal, with no leading zero and no −0.)
+-- (RULES 7.1)
 use Prim.Native.Nat.{ℕ, zero, suc, _+_, _-_, _*_, _/_, _%_}
 use mathlib.Core.List.{List, [], _∷_, _++_}
 use mathlib.Core.Bool.{Bool, not, _&&_, cond}

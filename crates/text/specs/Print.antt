@@ -1,5 +1,5 @@
 -- The lines that the symbol program prints, and what a lent buffer holds afterwards.
--- (Document 01, 'The symbol program': each symbol's 20 places, `end,samples,symbols,t`, `refused,number,line`.)
+-- (RULES 7.2, 7.3)
 use Prim.Native.Nat.{ℕ, _+_}
 use mathlib.Core.Path.{_≡_}
 use mathlib.Core.List.{List, [], _∷_, _++_}

@@ -70,7 +70,7 @@ fn put_value(v: i64, out: &mut [i64], n: usize)
 }
 
 // Reads a line (without its line feed) as fields of these types, and puts their values at the start of `out`. The answer is 0, or the refusal's number: 18
-// where the line has another number of fields or one of wrong form, else 19 where a value is outside its type (document 01: the symbol program).
+// where the line has another number of fields or one of wrong form, else 19 where a value is outside its type (RULES 7.1).
 pub fn read_line(s: &[u8], kinds: &[u8], out: &mut [i64]) -> u32
     ensures { λ r. ⌜ Reading (now (kinds .entry)) (now (s .entry)) (now (out .entry)) r (now (out .exit)) ⌝ }
 {

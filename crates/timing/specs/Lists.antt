@@ -1,5 +1,5 @@
 -- Lists of block calls: each call is given the state that the one before it handed back, whether that was refused or not.
--- (Document 01, 'A block': lists of block calls.)
+-- (RULES 5.1)
 use Prim.Native.Nat.{ℕ, _+_, _*_}
 use mathlib.Core.Bool.{cond}
 use mathlib.Core.List.{List, [], _∷_, _++_}

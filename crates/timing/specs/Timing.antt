@@ -1,6 +1,6 @@
 -- What holds of every list of block calls from a fresh start, refused calls among them, and of every two such lists under one sheet.
 -- The claims are about the places that the calls wrote and the states that they handed back, and nothing in them is left abstract.
--- (Document 00, demand 3; document 01, 'A block': lists of block calls.)
+-- (RULES 5.2, 5.3)
 use Prim.Native.Nat.{ℕ, _+_, _*_, _≤_, _<_}
 use mathlib.Core.Path.{_≡_}
 use mathlib.Core.Logic.{_⊎_}

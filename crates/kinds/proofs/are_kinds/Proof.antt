@@ -54,8 +54,7 @@ loop-again c =
     let l = k .before .before .before .before .loop in
     let rest : Bool = areKinds (drop (l .n + 1) (a .kinds .now)) (drop (l .n + 1) (a .places .now)) in
     let is = simp (held w64 (at (a .places .now) (l .n)) (search needs)) at (k .is-kind .ensures) in
-    let next = next-kind (a .kinds .now) (a .places .now) (l .n) (omega arith) (omega arith) ∙ ap (λ (t : Bool). t && rest) (sym is) in
-    (
+    let next = next-kind (a .kinds .now) (a .places .now) (l .n) (omega arith) (omega arith) ∙ ap (λ (t : Bool). t && rest) (sym is) in (
       omega arith,
       l .inv .1 ∙ ap (λ (t : Bool). l .good && t) next ∙ sym (and-assoc (l .good) (k .is-kind .result) rest)
           ∙ ap (λ (t : Bool). t && rest) (sym (c .both .ensures)),
