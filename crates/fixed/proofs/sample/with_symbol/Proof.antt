@@ -1,6 +1,6 @@
 -- `fixed::sample::with_symbol` meets its contract: the registers step as the state's do, and the symbol is made of what they then hold.
 -- What it does to registers, positions and queue is what the definition does to the state that they stand for (Kept).
-use Prim.Native.Nat.{ℕ, _+_, _/_, _%_, _≤_, _<_}
+use Prim.Native.Nat.{ℕ, _+_, _/_, _%_, _<_}
 use mathlib.Core.Path.{_≡_, refl, sym, ap, subst, _∙_}
 use mathlib.Core.Bool.{Bool, true}
 use mathlib.Core.List.{List}
@@ -23,9 +23,7 @@ use Rattle.registers.specs.Step.{isDue, one, left, afterSymbol}
 use Rattle.symbol.specs.declared.Sums.{Sums}
 use Rattle.symbol.specs.declared.Symbol.{Symbol}
 use Rattle.symbol.specs.Make.{symbolFrom}
-use Rattle.state.specs.declared.Position.{Position}
 use Rattle.state.specs.declared.Frontend.{Frontend}
-use Rattle.fixed.specs.Filter.{filtered}
 use Rattle.fixed.specs.Sample.{symbolOf, withSymbol}
 use Rattle.state.specs.Check.{outline}
 use Rattle.fixed.specs.Inside.{Kept, kept, Stands, GoesOn, MakesSymbol}

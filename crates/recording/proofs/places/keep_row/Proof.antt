@@ -2,7 +2,7 @@
 -- In the end no number is left, or no place.
 use Prim.Native.Nat.{ℕ, _+_, _-_, _≤_, min}
 use mathlib.Core.Path.{_≡_, refl, sym, ap, _∙_}
-use mathlib.Core.List.{List, map}
+use mathlib.Core.List.{map}
 use native.Mathlib.Omega.{arith}
 use lib.IntN.{ℤ, pos}
 use lib.ListN.{length, getD, drop, set, length-set}

@@ -1,6 +1,6 @@
 -- `replay::Cursor::row` meets its contract: what the bytes from here on leave is what those behind the next byte leave, once that byte is read (Reading).
 -- A turn goes one byte on, none begins at the end of the piece, and the row keeps its length, whatever is stored in it.
-use Prim.Native.Nat.{ℕ, _+_, _-_, _≤_, max}
+use Prim.Native.Nat.{_+_, _-_, _≤_, max}
 use mathlib.Core.Path.{_≡_, refl, sym, ap, _∙_}
 use mathlib.Core.Bool.{true, cond}
 use mathlib.Core.List.{[]}

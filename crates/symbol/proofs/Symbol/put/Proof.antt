@@ -2,16 +2,14 @@
 -- A place of an output with room for one symbol more is below its length, so nothing overflows.
 use Prim.Native.Nat.{ℕ, _+_, _*_, _/_, _≤_, _<_}
 use mathlib.Core.Path.{_≡_, refl, ap, _∙_}
-use mathlib.Core.Bool.{Bool, true, false, cond, _&&_}
+use mathlib.Core.Bool.{true, false}
 use mathlib.Core.List.{List, _++_}
-use native.Mathlib.Omega.{arith}
-use lib.Dec.{leb, ltb}
 use lib.ListN.{length, take, drop}
 use lib.IntN.{ℤ}
 use borrow.Author.Needs.{needs}
 use borrow.Author.Tests.{lt-ltb, le-ltb, le-leb, lt-leb}
 use Rattle.symbol.specs.declared.Symbol.{Symbol}
-use Rattle.symbol.specs.Places.{placesOf, Put, hasRoom, putOf}
+use Rattle.symbol.specs.Places.{hasRoom, putOf}
 use Rattle.symbol.proofs.Symbol.put.Statement.{statement}
 use Rattle.symbol.proofs.Symbol.put.Tie as tie
 

@@ -15,7 +15,7 @@ use borrow.Author.Needs.{needs}
 use borrow.Author.Tests.{leb-true, leb-false}
 use Rattle.arith.specs.Arith.{clampZ, roundShift}
 use Rattle.arith.proofs.Magnitude.{clamp-mag}
-use Rattle.arith.proofs.Order.{P, N, eq-pn, minus-pn, neg-P, neg-N, fit-pn, clamp-inside}
+use Rattle.arith.proofs.Order.{eq-pn, minus-pn, neg-P, neg-N, fit-pn, clamp-inside}
 use Rattle.arith.proofs.Bits.{held}
 use Rattle.arith.proofs.Rounding.{round-fits}
 use Rattle.arith.proofs.Widths.{narrows, narrowed}

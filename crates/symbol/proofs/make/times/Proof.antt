@@ -2,7 +2,6 @@
 -- A gain of 16 bits unsigned is a number of 32 bits signed.
 use mathlib.Core.Path.{_≡_, ap, _∙_}
 use native.Mathlib.Omega.{arith}
-use lib.IntN.{ℤ, pos}
 use mir.Syntax.{w16, w32, w64}
 use mir.Facts.{toZ-ofZ, toZ-pos}
 use borrow.Author.Needs.{needs}
