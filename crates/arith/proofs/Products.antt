@@ -1,4 +1,5 @@
--- Products of sums. That a product with a sum is the sum of the products holds by counting one of the summands up from 0 and down from 0; the other laws follow from it.
+-- Products of sums. That a product with a sum is the sum of the products holds by counting one of the summands up from 0 and down from 0; the other laws
+-- follow from it.
 use mathlib.Core.Path.{_≡_, sym, ap, _∙_}
 use lib.IntN.{ℤ, pos, negℤ, _+ℤ_, _-ℤ_, _*ℤ_, ℤ-ind, +ℤ-one, -ℤ-one, +ℤ-idr, +ℤ-assoc, -ℤ-+ℤ-cancel, +ℤ-negℤ-cancel, zero-*ℤ, sucℤ-*ℤ, predℤ-*ℤ, *ℤ-comm}
 

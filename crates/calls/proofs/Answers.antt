@@ -112,7 +112,8 @@ module _ (s : Sheet) (state : List ℤ) where
   read-number refused zeros = go (stateFits state) refl
     where
       go : (b : Bool) → stateFits state ≡ b
-          → refused (cond (stateFits state) (stateOf state) (atRest 0 0)) ≡ firstNumber (cond (stateFits state) 0 (firstNumber (judged s .number) 9)) (refused (stateOf state))
+          → refused (cond (stateFits state) (stateOf state) (atRest 0 0)) ≡ firstNumber (cond (stateFits state) 0 (firstNumber (judged s .number) 9))
+          (refused (stateOf state))
       go true e = rw e refl
       go false e = rw e (zeros ∙ first-is (firstNumber (judged s .number) 9) (refused (stateOf state)) (nine (judged s .number) refl) refl)
 

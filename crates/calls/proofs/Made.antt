@@ -138,7 +138,8 @@ passed : (d : Design) (gains : Gains) (h g k : List ℤ) → refusedBy (sheetOfD
 unfolding sheetOfDesign designFaults judgeFaults
 passed d gains h g k z =
     let p : Params = sheetMade (registersOf d (spsOf d)) gains in
-    let none = none-left (spsOf d) (d .trim) (goodSps (spsOf d)) (goodTaps (d .taps)) (leb 2 (d .bits) && leb (d .bits) 8) (goodTrim (d .trim)) (faults (sheetOf p h g k)) p
+    let none = none-left (spsOf d) (d .trim) (goodSps (spsOf d)) (goodTaps (d .taps)) (leb 2 (d .bits) && leb (d .bits) 8) (goodTrim (d .trim))
+    (faults (sheetOf p h g k)) p
     (faults-numbered (sheetOf p h g k)) z in
     record { is = none .0; faultless = none .1 }
 

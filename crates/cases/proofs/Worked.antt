@@ -2,7 +2,8 @@
 use mathlib.Core.Path.{refl}
 use Rattle.arith.specs.Arith.{roundShift, clampZ, modZ, wrapI32}
 use Rattle.tables.specs.Wheel.{quarter, wheel}
-use Rattle.params.specs.Judge.{goodTaps, goodLength, rowOf, coefficientFaults, magnitudes, rowFaults, rowsFaults, detectorPlace, zeroOutside, rowsOutside, lengthFaults, bankFaults, goodPeriods, fieldFaults, faults, judged}
+use Rattle.params.specs.Judge.{goodTaps, goodLength, rowOf, coefficientFaults, magnitudes, rowFaults, rowsFaults, detectorPlace, zeroOutside, rowsOutside}
+use Rattle.params.specs.Judge.{lengthFaults, bankFaults, goodPeriods, fieldFaults, faults, judged}
 use Rattle.params.specs.Offset.{partsOf, offsetOf}
 use Rattle.floats.specs.Whole.{roundAway}
 use Rattle.design.specs.Steps.{hundredths, spsOf, periodNominal, atLeastMin, periodMin, periodMax, integratorMax, ncoStep, agcTarget, registersOf}
@@ -16,7 +17,10 @@ use lib.Ieee.{round, neg, mul, div, lt, le, eq, toUnsigned, toSigned}
 use mathlib.Core.List.{flatten}
 
 pub worked : Worked
-unfolding flatten roundShift clampZ modZ wrapI32 quarter wheel goodTaps goodLength rowOf coefficientFaults magnitudes rowFaults rowsFaults detectorPlace zeroOutside lengthFaults bankFaults rowsOutside goodPeriods fieldFaults faults judged partsOf offsetOf mixed quantised gainError rows paramsWith plainSheet sheet firstOfK placesFrom round neg mul div lt le eq toUnsigned toSigned roundAway hundredths spsOf periodNominal atLeastMin periodMin periodMax integratorMax ncoStep agcTarget registersOf goodSps goodTrim designFaults designOf twoSamples registersWith
+unfolding flatten roundShift clampZ modZ wrapI32 quarter wheel goodTaps goodLength rowOf coefficientFaults magnitudes rowFaults rowsFaults detectorPlace
+    zeroOutside lengthFaults bankFaults rowsOutside goodPeriods fieldFaults faults judged partsOf offsetOf mixed quantised gainError rows paramsWith
+    plainSheet sheet firstOfK placesFrom round neg mul div lt le eq toUnsigned toSigned roundAway hundredths spsOf periodNominal atLeastMin periodMin
+    periodMax integratorMax ncoStep agcTarget registersOf goodSps goodTrim designFaults designOf twoSamples registersWith
 worked = record {
   round-down = refl;
   round-up = refl;

@@ -32,7 +32,8 @@ pub at-taps : (d : Design) → goodSps (spsOf d) ≡ true → goodTaps (d .taps)
 unfolding designOf designFaults flatten
 at-taps d s t = rw (s, t) refl
 
-pub at-bits : (d : Design) → goodSps (spsOf d) ≡ true → goodTaps (d .taps) ≡ true → leb 2 (d .bits) && leb (d .bits) 8 ≡ false → refused (floatRefusal 16 []) ≡ designOf d
+pub at-bits : (d : Design) → goodSps (spsOf d) ≡ true → goodTaps (d .taps) ≡ true → leb 2 (d .bits) && leb (d .bits) 8 ≡ false
+    → refused (floatRefusal 16 []) ≡ designOf d
 unfolding designOf designFaults flatten
 at-bits d s t b = rw (s, t, b) refl
 
@@ -46,7 +47,8 @@ at-end d p t = rw (p .sps, p .taps, p .bits, t) refl
 
 -- ---- the judge's answer
 
-first-judged : {A : Type 0} (rs : List Refusal) (r : Refusal) (a : A) → 0 < r .number → r ≡ firstOf rs → refused (judgeRefusal r) ≡ firstOr (map judgeRefusal rs) a
+first-judged : {A : Type 0} (rs : List Refusal) (r : Refusal) (a : A) → 0 < r .number → r ≡ firstOf rs
+    → refused (judgeRefusal r) ≡ firstOr (map judgeRefusal rs) a
 first-judged [] r a h e = absurd (omega (arith, ap (λ (q : Refusal). q .number) e))
 first-judged (q ∷ rs) r a h e = ap (λ (q : Refusal). refused (judgeRefusal q)) e
 

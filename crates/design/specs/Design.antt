@@ -1,5 +1,5 @@
--- What a design answers, and what a design answers with banks and gains: all faults in the order in which they are looked for, of which the first is the answer.
--- (A number before a definition is that of the refusal it decides.)
+-- What a design answers, and what a design answers with banks and gains: all faults in the order in which they are looked for, of which the first is the
+-- answer. (A number before a definition is that of the refusal it decides.)
 use mathlib.Core.Bool.{Bool, true, false, cond, _&&_}
 use mathlib.Core.List.{List, [], _∷_, _++_, flatten, map}
 use lib.Dec.{leb}

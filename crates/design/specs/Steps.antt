@@ -1,5 +1,5 @@
--- The registers of a design, step by step. Each operation is the kit's of f64, which rounds its exact result once, so the order of the operations is part of the rule.
--- (RULES 6.3; the order of the steps is that of `Params::design` in isdb-rs.)
+-- The registers of a design, step by step. Each operation is the kit's of f64, which rounds its exact result once, so the order of the operations is part of
+-- the rule. (RULES 6.3; the order of the steps is that of `Params::design` in isdb-rs.)
 use Prim.Native.Nat.{ℕ}
 use mathlib.Core.Bool.{false, cond}
 use lib.IntN.{ℤ, pos, negsuc}

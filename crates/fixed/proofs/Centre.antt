@@ -1,4 +1,5 @@
--- Rows of the timing detector's. Outside the detector's places their coefficients are zero and add nothing, so a sum over these places alone is the sum over the row.
+-- Rows of the timing detector's. Outside the detector's places their coefficients are zero and add nothing, so a sum over these places alone is the sum over
+-- the row.
 use Prim.Native.Nat.{ℕ, zero, suc, _+_, _-_, _/_, _≤_, _<_, min}
 use mathlib.Core.Path.{_≡_, refl, sym, ap, _∙_}
 use mathlib.Core.Bool.{true}
@@ -33,7 +34,8 @@ unfolding sumTo
 skip-back f n zero h = let e : n + 0 ≡ n = omega arith in rw e
 skip-back f n (suc d) h =
     let e : n + suc d ≡ suc (n + d) = omega arith in
-    rw e (ap (λ (z : ℤ). sumTo f (n + d) +ℤ z) (h (n + d) (omega arith) (omega arith)) ∙ +ℤ-idr (sumTo f (n + d)) ∙ skip-back f n d (λ m l k. h m l (omega arith)))
+    rw e (ap (λ (z : ℤ). sumTo f (n + d) +ℤ z) (h (n + d) (omega arith) (omega arith)) ∙ +ℤ-idr (sumTo f (n + d))
+    ∙ skip-back f n d (λ m l k. h m l (omega arith)))
 
 -- ---- the coefficients outside
 
@@ -63,12 +65,14 @@ module _ (row : List ℤ) (z : zeroOutside (length row) 0 row ≡ true) where
   split : magnitudes row ≡ magnitudes (take (low row) row) + (magnitudes (middle row) + magnitudes (behind row))
   split =
       ap magnitudes (sym (take-append-drop (low row) row)) ∙ magnitudes-append (take (low row) row) (drop (low row) row)
-      ∙ ap (λ (n : ℕ). magnitudes (take (low row) row) + n) (ap magnitudes (sym (take-append-drop (wide row) (drop (low row) row))) ∙ magnitudes-append (middle row) (behind row))
+      ∙ ap (λ (n : ℕ). magnitudes (take (low row) row) + n) (ap magnitudes (sym (take-append-drop (wide row) (drop (low row) row)))
+      ∙ magnitudes-append (middle row) (behind row))
 
   front-zero : (n : ℕ) → n < (low row) → getD row n (pos 0) ≡ pos 0
   front-zero n h =
       let inside : n < length (take (low row) row) = omega (arith, length-take-le (low row) row (omega arith)) in
-      sym (getD-take (low row) row n (pos 0) h) ∙ none-small (getD (take (low row) row) n (pos 0)) (omega (arith, mag-each (take (low row) row) n inside, split, all-in))
+      sym (getD-take (low row) row n (pos 0) h)
+      ∙ none-small (getD (take (low row) row) n (pos 0)) (omega (arith, mag-each (take (low row) row) n inside, split, all-in))
 
   back-zero : (n : ℕ) → (low row) + (wide row) ≤ n → n < length row → getD row n (pos 0) ≡ pos 0
   back-zero n h l =
@@ -94,7 +98,12 @@ module _ (row : List ℤ) (z : zeroOutside (length row) 0 row ≡ true) where
       let e : ((low row) + (wide row)) + (length row - ((low row) + (wide row))) ≡ length row = omega arith in
       ap (sumTo (λ n. getD (middle row) n (pos 0) *ℤ lowered (getD (take (wide row) (drop (low row) kept)) n 0))) long
       ∙ sum-same (λ n. getD (middle row) n (pos 0) *ℤ lowered (getD (take (wide row) (drop (low row) kept)) n 0)) (λ n. term kept ((low row) + n)) (wide row)
-      (λ n h. rw (getD-take (wide row) (drop (low row) row) n (pos 0) h, getD-take (wide row) (drop (low row) kept) n 0 h, getD-drop (low row) row n (pos 0), getD-drop (low row) kept n 0))
+      (λ n h. rw (
+        getD-take (wide row) (drop (low row) row) n (pos 0) h,
+        getD-take (wide row) (drop (low row) kept) n 0 h,
+        getD-drop (low row) row n (pos 0),
+        getD-drop (low row) kept n 0,
+      ))
       ∙ sym (skip-front (term kept) (low row) (wide row) (λ n h. silent kept n (front-zero n h)))
       ∙ sym (skip-back (term kept) ((low row) + (wide row)) (length row - ((low row) + (wide row))) (λ n h l. silent kept n (back-zero n h (omega arith))))
       ∙ ap (sumTo (term kept)) e

@@ -34,7 +34,8 @@ pub filled-next : {A : Type 0} {d : A} {f : ℕ → A} {n : ℕ} {l₀ l : List 
 filled-next {A} {d} {f} {n} {l₀} {l} filled h =
     record {
       long = length-set l n (f n) ∙ filled .long;
-      first = next-place (λ m. getD (set l n (f n)) m d ≡ f m) n (λ m k. getD-set-other l n m (f n) d (omega arith) ∙ filled .first m k) (getD-set-same l n (f n) d h);
+      first = next-place (λ m. getD (set l n (f n)) m d ≡ f m) n (λ m k. getD-set-other l n m (f n) d (omega arith) ∙ filled .first m k)
+          (getD-set-same l n (f n) d h);
       rest = λ m k. getD-set-other l n m (f n) d (omega arith) ∙ filled .rest m (omega arith);
     }
 

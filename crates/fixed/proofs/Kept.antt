@@ -40,7 +40,8 @@ use Rattle.fixed.proofs.OneStep.{one-step}
 -- ---- the line
 
 -- a number joins one component, at both of its places
-pub twice-joined : {taps : ℕ} {kept : List ℕ} (line : List Pair) (of : Pair → ℤ) (head x : ℕ) (m : Pair) → lowered x ≡ of m → head < taps → taps ≤ 64 → length line ≡ 64
+pub twice-joined : {taps : ℕ} {kept : List ℕ} (line : List Pair) (of : Pair → ℤ) (head x : ℕ) (m : Pair) → lowered x ≡ of m → head < taps → taps ≤ 64
+    → length line ≡ 64
     → Twice taps kept (λ n. of (getD line n noPair)) → Twice taps (set (set kept head x) (head + taps) x) (λ n. of (getD (set line head m) n noPair))
 twice-joined {taps} {kept} line of head x m e h k l t =
     let once : List ℕ = set kept head x in
@@ -79,7 +80,8 @@ laid-joined {line} head x y m ex ey h k laid = record {
 -- ---- the queue
 
 -- a symbol's errors take a place
-pub queued-set : {e err : List ℤ} {pending : List Pending} (at : ℕ) (w : Pending) → at < 24 → Queued e err pending → Queued (set e at (w .e)) (set err at (w .err)) (set pending at w)
+pub queued-set : {e err : List ℤ} {pending : List Pending} (at : ℕ) (w : Pending) → at < 24 → Queued e err pending
+    → Queued (set e at (w .e)) (set err at (w .err)) (set pending at w)
 queued-set {e} {err} {pending} at w h queued = record {
   long-e = length-set e at (w .e) ∙ queued .long-e;
   long-err = length-set err at (w .err) ∙ queued .long-err;
@@ -90,11 +92,20 @@ queued-set {e} {err} {pending} at w h queued = record {
     go : (n : ℕ) → n < 24 → (b : Bool) → eqb n at ≡ b
         → getD (set pending at w) n noPending ≡ errorsAt (set e at (w .e)) (set err at (w .err)) n
     go n b true q =
-        rw (eqb-true n at q, getD-set-same pending at w noPending (omega (arith, queued .long)), getD-set-same e at (w .e) (pos 0) (omega (arith, queued .long-e)), getD-set-same err at (w .err) (pos 0) (omega (arith, queued .long-err)))
+        rw (
+          eqb-true n at q,
+          getD-set-same pending at w noPending (omega (arith, queued .long)),
+          getD-set-same e at (w .e) (pos 0) (omega (arith, queued .long-e)),
+          getD-set-same err at (w .err) (pos 0) (omega (arith, queued .long-err)),
+        )
         refl
     go n b false q =
         let other = eqb-false n at q in
-        rw (getD-set-other pending at n w noPending (omega arith), getD-set-other e at n (w .e) (pos 0) (omega arith), getD-set-other err at n (w .err) (pos 0) (omega arith))
+        rw (
+          getD-set-other pending at n w noPending (omega arith),
+          getD-set-other e at n (w .e) (pos 0) (omega arith),
+          getD-set-other err at n (w .err) (pos 0) (omega arith),
+        )
         (queued .each n b)
 
 -- ---- an integrator within its ends leaves room to be moved
@@ -314,7 +325,14 @@ module _ {s : Sheet} {x : Kept} (ready : Ready s x) where
     line = rw (stands .head, stands .registers) (laid-joined head a b (mixed (r .nco) m) ea eb (head-fits .0) (head-fits .1) (stands .line));
     queue = stands .queue;
     registers =
-        ap (λ (r : Registers). record { nco = nextNco p (r .nco); «t_acc» = r .«t_acc»; v = r .v; period = r .period; «gain_acc» = r .«gain_acc»; symbols = r .symbols })
+        ap (λ (r : Registers). record {
+          nco = nextNco p (r .nco);
+          «t_acc» = r .«t_acc»;
+          v = r .v;
+          period = r .period;
+          «gain_acc» = r .«gain_acc»;
+          symbols = r .symbols;
+        })
         (stands .registers);
     head = ap (nextHead (p .taps)) (stands .head);
     oldest = stands .oldest;

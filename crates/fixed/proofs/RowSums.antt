@@ -1,5 +1,5 @@
--- The sum of a row over the line, built up coefficient by coefficient. A sum of products is linear in each factor, so what the raising of the line's numbers, or of the coefficients, adds
--- to it is a sum of its own; and each partial sum is bounded by the magnitudes so far.
+-- The sum of a row over the line, built up coefficient by coefficient. A sum of products is linear in each factor, so what the raising of the line's numbers,
+-- or of the coefficients, adds to it is a sum of its own; and each partial sum is bounded by the magnitudes so far.
 use Prim.Native.Nat.{ℕ, zero, suc, _+_, _*_, _^_, _≤_, _<_}
 use mathlib.Core.Path.{_≡_, refl, sym, ap, _∙_}
 use mathlib.Core.List.{List}
@@ -75,7 +75,8 @@ mag-step row n h = rw add-one (magnitudes-suc row n h)
 
 pub mag-most : (row : List ℤ) (n : ℕ) → magnitudes (take n row) ≤ magnitudes row
 mag-most row n =
-    let e : magnitudes (take n row) + magnitudes (drop n row) ≡ magnitudes row = sym (magnitudes-append (take n row) (drop n row)) ∙ ap magnitudes (take-append-drop n row) in
+    let e : magnitudes (take n row) + magnitudes (drop n row) ≡ magnitudes row = sym (magnitudes-append (take n row) (drop n row))
+    ∙ ap magnitudes (take-append-drop n row) in
     omega arith
 
 pub mag-each : (row : List ℤ) (n : ℕ) → n < length row → natAbs (getD row n (pos 0)) ≤ magnitudes row
@@ -153,7 +154,8 @@ lifted-all row kept u v c l k w =
     ap (λ (z : ℤ). z -ℤ pos v *ℤ pos 131072) (l .is)
     ∙ ap (λ (z : ℤ). sumTo (λ m. (coefficient row m +ℤ pos 131072) *ℤ kept-at kept m) (length row) -ℤ z *ℤ pos 131072) (k .is)
     ∙ sym (lower-row (coefficient row) (kept-at kept) (pos 131072) (length row)) in
-    ap (λ (z : ℤ). z -ℤ c *ℤ pos 2147483648) products ∙ ap (λ (z : ℤ). sumTo (λ m. coefficient row m *ℤ kept-at kept m) (length row) -ℤ z *ℤ pos 2147483648) (w .is)
+    ap (λ (z : ℤ). z -ℤ c *ℤ pos 2147483648) products
+    ∙ ap (λ (z : ℤ). sumTo (λ m. coefficient row m *ℤ kept-at kept m) (length row) -ℤ z *ℤ pos 2147483648) (w .is)
     ∙ sym (lower-line (coefficient row) (kept-at kept) (pos 2147483648) (length row))
 
 -- ---- both components at once
@@ -175,22 +177,26 @@ taken-none row i q = record { in-i = lifted-none row i; in-q = lifted-none row q
 pub level-none : (i q : List ℕ) → Level i q 0 0 0
 level-none i q = record { in-i = lined-none i; in-q = lined-none q }
 
-pub taken-more : (row : List ℤ) (i q : List ℕ) (n u v : ℕ) (c : ℤ) → n < length row → natAbs (coefficient row n) ≤ 131071 → getD i n 0 < 4294967296 → getD q n 0 < 4294967296 → Taken row i q n u v c
-    → Taken row i q (n + 1) (u + natAbs (coefficient row n +ℤ pos 131072) * getD i n 0) (v + natAbs (coefficient row n +ℤ pos 131072) * getD q n 0) (c +ℤ coefficient row n)
+pub taken-more : (row : List ℤ) (i q : List ℕ) (n u v : ℕ) (c : ℤ) → n < length row → natAbs (coefficient row n) ≤ 131071 → getD i n 0 < 4294967296
+    → getD q n 0 < 4294967296 → Taken row i q n u v c
+    → Taken row i q (n + 1) (u + natAbs (coefficient row n +ℤ pos 131072) * getD i n 0) (v + natAbs (coefficient row n +ℤ pos 131072) * getD q n 0)
+    (c +ℤ coefficient row n)
 taken-more row i q n u v c h each x y t = record {
   in-i = lifted-more row i n u each x (t .in-i);
   in-q = lifted-more row q n v each y (t .in-q);
   weight = weighed-more row n c h (t .weight);
 }
 
-pub level-more : (i q : List ℕ) (n u v : ℕ) → getD i n 0 < 4294967296 → getD q n 0 < 4294967296 → Level i q n u v → Level i q (n + 1) (u + getD i n 0) (v + getD q n 0)
+pub level-more : (i q : List ℕ) (n u v : ℕ) → getD i n 0 < 4294967296 → getD q n 0 < 4294967296 → Level i q n u v
+    → Level i q (n + 1) (u + getD i n 0) (v + getD q n 0)
 level-more i q n u v x y l = record { in-i = lined-more i n u x (l .in-i); in-q = lined-more q n v y (l .in-q) }
 
 -- of a light row the coefficients are small, and so are 64 of these sums
 pub light-each : (row : List ℤ) (n : ℕ) → magnitudes row ≤ 131071 → n < length row → natAbs (coefficient row n) ≤ 131071
 light-each row n light h = omega (arith, mag-each row n h)
 
-pub taken-small : (row : List ℤ) (i q : List ℕ) (n u v : ℕ) (c : ℤ) → n ≤ 64 → magnitudes row ≤ 131071 → Taken row i q n u v c → (u ≤ 2 ^ 57) × ((v ≤ 2 ^ 57) × (natAbs c ≤ 131071))
+pub taken-small : (row : List ℤ) (i q : List ℕ) (n u v : ℕ) (c : ℤ) → n ≤ 64 → magnitudes row ≤ 131071 → Taken row i q n u v c
+    → (u ≤ 2 ^ 57) × ((v ≤ 2 ^ 57) × (natAbs c ≤ 131071))
 taken-small row i q n u v c few light t = (omega (arith, t .in-i .small), (omega (arith, t .in-q .small), omega (arith, t .weight .small, mag-most row n)))
 
 pub level-small : (i q : List ℕ) (n u v : ℕ) → n ≤ 64 → Level i q n u v → (u ≤ 2 ^ 38) × (v ≤ 2 ^ 38)

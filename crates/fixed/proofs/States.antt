@@ -1,5 +1,6 @@
 -- Each sample keeps a state one that a block can go on from, in general and not only from a fresh start.
--- The loop's registers are held by clamps, the time goes down by a sample and up by a period of one to four, and a symbol adds one to the count beside a sample's one.
+-- The loop's registers are held by clamps, the time goes down by a sample and up by a period of one to four, and a symbol adds one to the count beside a
+-- sample's one.
 use Prim.Native.Nat.{ℕ, _+_, _-_, _%_, _≤_, _<_, min}
 use mathlib.Core.Path.{_≡_, refl, sym, ap, _∙_, subst}
 use mathlib.Core.Bool.{Bool, true, false, cond}

@@ -28,7 +28,8 @@ pairs-long [] = refl
 pairs-long (i ∷ []) = refl
 pairs-long (i ∷ q ∷ values) = omega (arith, pairs-long values)
 
-pub pairs-at : (values : List ℤ) (n : ℕ) → n < length values / 2 → getD (pairsOf values) n noPair ≡ record { i = getD values (2 * n) (pos 0); q = getD values (2 * n + 1) (pos 0) }
+pub pairs-at : (values : List ℤ) (n : ℕ) → n < length values / 2
+    → getD (pairsOf values) n noPair ≡ record { i = getD values (2 * n) (pos 0); q = getD values (2 * n + 1) (pos 0) }
 unfolding pairsOf
 pairs-at [] n h = absurd (omega arith)
 pairs-at (i ∷ []) n h = absurd (omega arith)

@@ -87,7 +87,8 @@ module _ (taps phase : ℕ) (below : phase < 64) (cs : List ℤ) (long : length 
   }
 
   -- the same of the timing detector's
-  pub detector-part : (bank : ℕ) {i q : List ℕ} → taps ≤ 64 → length i ≡ taps → length q ≡ taps → rowsFaults taps bank cs 0 64 ≡ [] → rowsOutside taps cs 0 64 ≡ true
+  pub detector-part : (bank : ℕ) {i q : List ℕ} → taps ≤ 64 → length i ≡ taps → length q ≡ taps → rowsFaults taps bank cs 0 64 ≡ []
+      → rowsOutside taps cs 0 64 ≡ true
       → DetectorRow part i q
   detector-part bank short at-i at-q none outside =
       record { good = good-part bank short at-i at-q none; centred = rw (part-long, part-is) (row-centred taps cs phase below outside) }

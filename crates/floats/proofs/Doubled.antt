@@ -2,7 +2,8 @@
 use Prim.Native.Nat.{ℕ, zero, suc, _+_, _-_, _*_, _%_, _^_, _≤_, _<_}
 use mathlib.Core.Path.{_≡_, refl, sym, ap, _∙_, subst}
 use mathlib.Core.Bool.{Bool, true, false, _&&_}
-use native.Mathlib.Nat.{mul-one, mul-comm, mul-assoc, mul-left-comm, mul-pos, two-mul, pow-succ', lt-of-le-of-lt, lt-of-lt-of-le, le-of-eq, lt-of-not-le, not-le-of-lt, mul-lt-mul-of-pos-right, lt-of-mul-lt-mul-right, le-mul-of-pos-right, le-trans, eq-of-mul-eq-mul-right}
+use native.Mathlib.Nat.{mul-one, mul-comm, mul-assoc, mul-left-comm, mul-pos, two-mul, pow-succ', lt-of-le-of-lt, lt-of-lt-of-le, le-of-eq, lt-of-not-le}
+use native.Mathlib.Nat.{not-le-of-lt, mul-lt-mul-of-pos-right, lt-of-mul-lt-mul-right, le-mul-of-pos-right, le-trans, eq-of-mul-eq-mul-right}
 use native.Mathlib.Omega.{arith}
 use lib.Dec.{T, ltb, leb, eqb, ltb→lt, leb→le, eqb→eq}
 use lib.Pow.{pow-add, pow-pos, pow-lt}

@@ -2,7 +2,8 @@
 use Prim.Native.Nat.{ℕ, suc, _+_, _-_, _*_, _/_, _^_, _≤_, _<_, min}
 use mathlib.Core.Path.{_≡_, refl, sym, ap, _∙_}
 use mathlib.Core.Bool.{Bool, true, false, not, cond, _||_}
-use native.Mathlib.Nat.{mul-one, one-mul, zero-mul, mul-pos, mul-right-comm, min-eq-left, min-eq-right, div-lt-iff-lt-mul, le-div-iff-mul-le, le-of-lt, le-of-eq, lt-of-le-of-lt, lt-of-lt-of-le, lt-of-mul-lt-mul-right, mul-lt-mul-of-pos-right}
+use native.Mathlib.Nat.{mul-one, one-mul, zero-mul, mul-pos, mul-right-comm, min-eq-left, min-eq-right, div-lt-iff-lt-mul, le-div-iff-mul-le, le-of-lt}
+use native.Mathlib.Nat.{le-of-eq, lt-of-le-of-lt, lt-of-lt-of-le, lt-of-mul-lt-mul-right, mul-lt-mul-of-pos-right}
 use native.Mathlib.Omega.{arith}
 use lib.Dec.{T, ltb, ltb→lt, lt→ltb, nltb→le}
 use lib.Pow.{pow-pos}
@@ -131,7 +132,8 @@ own h n g a d D v l =
 held-up : (k q : ℕ) → q < k → min q (k - 1) ≡ q
 held-up k q l = omega arith
 
-cut-is : (h : ℕ) (s : Bool) (n : ℕ) (g : ℤ) (a d : ℕ) → 0 < d → n * up g * d ≡ a * down g → n * up g < 2 ^ h * down g → toSigned h (fin s n g) ≡ signed s (a / d)
+cut-is : (h : ℕ) (s : Bool) (n : ℕ) (g : ℤ) (a d : ℕ) → 0 < d → n * up g * d ≡ a * down g → n * up g < 2 ^ h * down g
+    → toSigned h (fin s n g) ≡ signed s (a / d)
 unfolding toSigned
 cut-is h true n g a d D v l =
     let q : n * up g / down g < 2 ^ h = div-lt-iff-lt-mul (down-pos g) .1 l in

@@ -1,4 +1,5 @@
--- A cast to a narrow type is the cast to a wide one, clamped to the ends of the narrow: both go to the nearer end from outside, and the narrow ends lie within the wide ones.
+-- A cast to a narrow type is the cast to a wide one, clamped to the ends of the narrow: both go to the nearer end from outside, and the narrow ends lie
+-- within the wide ones.
 use Prim.Native.Nat.{ℕ, _-_, _*_, _/_, _^_, _≤_, _<_, min}
 use mathlib.Core.Path.{_≡_, refl}
 use mathlib.Core.Bool.{Bool, true, false, cond}
@@ -64,4 +65,5 @@ unsigned-narrow w k l nan = above (pos 0) (2 ^ w) 0 0 (omega arith) (omega arith
 unsigned-narrow w k l (inf true) = none (2 ^ w - 1) (2 ^ k)
 unsigned-narrow w k l (inf false) = above (pos 0) (2 ^ w) (2 ^ k - 1) (2 ^ w - 1) (omega arith) (omega (arith, pow-mono l))
 unsigned-narrow w k l (fin true m e) = none (2 ^ w - 1) (min (m * up e / down e) (2 ^ k))
-unsigned-narrow w k l (fin false m e) = above (pos 0) (2 ^ w) (min (m * up e / down e) (2 ^ k - 1)) (min (m * up e / down e) (2 ^ w - 1)) (omega arith) (omega (arith, pow-mono l))
+unsigned-narrow w k l (fin false m e) =
+    above (pos 0) (2 ^ w) (min (m * up e / down e) (2 ^ k - 1)) (min (m * up e / down e) (2 ^ w - 1)) (omega arith) (omega (arith, pow-mono l))

@@ -1,8 +1,10 @@
--- Rounding by doubling: half of twice a number's whole part, taken upward, is the nearest whole number, ties up. And where a float is large it is whole already.
+-- Rounding by doubling: half of twice a number's whole part, taken upward, is the nearest whole number, ties up. And where a float is large it is whole
+-- already.
 use Prim.Native.Nat.{ℕ, zero, suc, _+_, _-_, _*_, _/_, _%_, _^_, _≤_, _<_, min}
 use mathlib.Core.Path.{_≡_, refl, sym, ap, _∙_}
 use mathlib.Core.Bool.{Bool, true, false, not, cond}
-use native.Mathlib.Nat.{mul-left-comm, div-add-mod, mod-lt, mul-add-div, div-eq-of-lt, div-eq-of-lt-le, div-one, mod-one, mul-one, lt-of-lt-of-le, mul-le-mul-right, div-lt-iff-lt-mul}
+use native.Mathlib.Nat.{mul-left-comm, div-add-mod, mod-lt, mul-add-div, div-eq-of-lt, div-eq-of-lt-le, div-one, mod-one, mul-one, lt-of-lt-of-le}
+use native.Mathlib.Nat.{mul-le-mul-right, div-lt-iff-lt-mul}
 use native.Mathlib.Omega.{arith}
 use lib.Dec.{T, ltb, lit≤}
 use lib.IntN.{ℤ, pos, negsuc, negℤ, _+ℤ_}
@@ -76,7 +78,8 @@ quotient-fits s q l e = rw e (rw (quot-signed s q) (signed-fits s (q / 2) (omega
 pub half-of : (s : Bool) (q : ℕ) → q < 2 ^ 63 → {z : ℤ} → z ≡ signed s q
     → toZ w64 (ofZ w64 (quotZ z (pos 2))) +ℤ toZ w64 (ofZ w64 (remZ z (pos 2))) ≡ signed s (q / 2 + q % 2)
 half-of s q l e =
-    rw e (rw (quot-signed s q, rem-signed s q) (rw (toZ-ofZ (signed-fits s (q / 2) (omega arith)), toZ-ofZ (signed-fits s (q % 2) (omega arith))) (join s (q / 2) (q % 2))))
+    rw e (rw (quot-signed s q, rem-signed s q)
+    (rw (toZ-ofZ (signed-fits s (q / 2) (omega arith)), toZ-ofZ (signed-fits s (q % 2) (omega arith))) (join s (q / 2) (q % 2))))
 
 pub half-fits : (s : Bool) (q : ℕ) → q < 2 ^ 63 → {z : ℤ} → z ≡ signed s (q / 2 + q % 2) → SFits w64 z
 half-fits s q l e = rw e (signed-fits s (q / 2 + q % 2) (small-half q l))

@@ -22,9 +22,9 @@ fn cut_i64(x: f64) -> i64
     0
 }
 
-// `x.round() as i64`, ties away from zero. From 2^62 on in size there is no fraction to round; a NaN is neither above the one end nor below the other, and is cut
-// too. Below that, twice x is exact, and without its fraction it is odd where x goes one farther than its own whole part. Adding a half to x instead would round
-// the sum: just below a half, to 1.
+// `x.round() as i64`, ties away from zero. From 2^62 on in size there is no fraction to round; a NaN is neither above the one end nor below the other, and is
+// cut too. Below that, twice x is exact, and without its fraction it is odd where x goes one farther than its own whole part. Adding a half to x instead
+// would round the sum: just below a half, to 1.
 pub fn round_i64(x: f64) -> i64
     ensures { λ r. ⌜ r ≡ toSigned 63 (roundAway x) ⌝ }
 {

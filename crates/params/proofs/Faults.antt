@@ -118,7 +118,8 @@ row-numbered bank r row = search (numbered-append, numbered-unless, coefficients
 pub rows-numbered : (taps bank : ℕ) (cs : List ℤ) (r n : ℕ) → Numbered (rowsFaults taps bank cs r n)
 unfolding rowsFaults
 rows-numbered taps bank cs r zero = tt
-rows-numbered taps bank cs r (suc n) = let rest = rows-numbered taps bank cs (suc r) n in search (numbered-append, numbered-unless, coefficients-numbered, row-numbered, lit<)
+rows-numbered taps bank cs r (suc n) = let rest =
+    rows-numbered taps bank cs (suc r) n in search (numbered-append, numbered-unless, coefficients-numbered, row-numbered, lit<)
 
 pub lengths-numbered : (taps : ℕ) (h g k : List ℤ) → Numbered (lengthFaults taps h g k)
 unfolding lengthFaults flatten

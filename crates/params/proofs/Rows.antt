@@ -144,9 +144,12 @@ centred row =
     let la : length a ≡ low = length-take-le low row (omega arith) in
     let lm : length m ≡ wide = length-take-le wide (drop low row) (omega (arith, length-drop low row)) in
     let parts : a ++ (m ++ b) ≡ row = ap (λ (l : List ℤ). a ++ l) (take-append-drop wide (drop low row)) ∙ take-append-drop low row in
-    let sum : magnitudes row ≡ magnitudes a + (magnitudes m + magnitudes b) = ap magnitudes (sym parts) ∙ magnitudes-append a (m ++ b) ∙ ap (λ (n : ℕ). magnitudes a + n) (magnitudes-append m b) in
-    let left : zeroOutside taps 0 a ≡ eqb (magnitudes a) 0 = none-inside taps 0 a (λ j l h. ap (λ (x : Bool). x && ltb j (low + wide)) (lt-leb low j (omega arith))) in
-    let inside : zeroOutside taps low m ≡ true = all-inside taps low m (λ j l h. ap (λ (x : Bool). x && ltb j (low + wide)) (le-leb low j l) ∙ lt-ltb j (low + wide) (omega arith)) in
+    let sum : magnitudes row ≡ magnitudes a + (magnitudes m + magnitudes b) = ap magnitudes (sym parts) ∙ magnitudes-append a (m ++ b)
+    ∙ ap (λ (n : ℕ). magnitudes a + n) (magnitudes-append m b) in
+    let left : zeroOutside taps 0 a ≡ eqb (magnitudes a) 0 =
+    none-inside taps 0 a (λ j l h. ap (λ (x : Bool). x && ltb j (low + wide)) (lt-leb low j (omega arith))) in
+    let inside : zeroOutside taps low m ≡ true =
+    all-inside taps low m (λ j l h. ap (λ (x : Bool). x && ltb j (low + wide)) (le-leb low j l) ∙ lt-ltb j (low + wide) (omega arith)) in
     let right : zeroOutside taps (low + wide) b ≡ eqb (magnitudes b) 0 =
     none-inside taps (low + wide) b (λ j l h. ap (λ (x : Bool). x && ltb j (low + wide)) (le-leb low j (omega arith)) ∙ le-ltb j (low + wide) l) in
     let from : 0 + length a ≡ low = omega arith in

@@ -42,7 +42,8 @@ module _ (taps : ℕ) (cs : List ℤ) where
   rows-split bank r (suc n) m =
       let a : suc n + m ≡ suc (n + m) = omega arith in
       let b : r + suc n ≡ suc r + n = omega arith in
-      rw (a, b, rows-split bank (suc r) n m) (sym (append-assoc (rowFaults bank r (rowOf taps cs r)) (rowsFaults taps bank cs (suc r) n) (rowsFaults taps bank cs (suc r + n) m)))
+      rw (a, b, rows-split bank (suc r) n m)
+      (sym (append-assoc (rowFaults bank r (rowOf taps cs r)) (rowsFaults taps bank cs (suc r) n) (rowsFaults taps bank cs (suc r + n) m)))
 
   -- one row more without a fault
   pub rows-suc : (bank n : ℕ) → rowsFaults taps bank cs 0 n ≡ [] → rowFaults bank n (rowOf taps cs n) ≡ [] → rowsFaults taps bank cs 0 (n + 1) ≡ []
@@ -59,7 +60,8 @@ module _ (taps : ℕ) (cs : List ℤ) where
   rows-first bank n h none f =
       let e : 64 ≡ n + suc (63 - n) = omega arith in
       let z : 0 + n ≡ n = omega arith in
-      ap (λ (k : ℕ). firstOf (rowsFaults taps bank cs 0 k)) e ∙ rw (rows-split bank 0 n (suc (63 - n)), none, z) (first-append (rowFaults bank n (rowOf taps cs n)) _ f)
+      ap (λ (k : ℕ). firstOf (rowsFaults taps bank cs 0 k)) e
+      ∙ rw (rows-split bank 0 n (suc (63 - n)), none, z) (first-append (rowFaults bank n (rowOf taps cs n)) _ f)
 
   -- the rows that are zero outside the detector's places
   outside-split : (r n : ℕ) → rowsOutside taps cs r (n + 1) ≡ (rowsOutside taps cs r n && zeroOutside taps 0 (rowOf taps cs (r + n)))
@@ -74,7 +76,8 @@ module _ (taps : ℕ) (cs : List ℤ) where
   outside-split r (suc n) =
       let a : suc n + 1 ≡ suc (n + 1) = omega arith in
       let b : r + suc n ≡ suc r + n = omega arith in
-      rw (a, b, outside-split (suc r) n) (and-assoc (zeroOutside taps 0 (rowOf taps cs r)) (rowsOutside taps cs (suc r) n) (zeroOutside taps 0 (rowOf taps cs (suc r + n))))
+      rw (a, b, outside-split (suc r) n)
+      (and-assoc (zeroOutside taps 0 (rowOf taps cs r)) (rowsOutside taps cs (suc r) n) (zeroOutside taps 0 (rowOf taps cs (suc r + n))))
 
   pub outside-suc : (n : ℕ) → rowsOutside taps cs 0 (n + 1) ≡ (rowsOutside taps cs 0 n && zeroOutside taps 0 (rowOf taps cs n))
   outside-suc n = let z : 0 + n ≡ n = omega arith in outside-split 0 n ∙ rw z
@@ -101,7 +104,8 @@ module _ (taps : ℕ) (cs : List ℤ) where
   unfolding rowsOutside
   row-zero r zero n h e = absurd (omega arith)
   row-zero r (suc m) zero h e = let z : r + zero ≡ r = omega arith in rw z (and-left _ _ e)
-  row-zero r (suc m) (suc n) h e = let z : r + suc n ≡ suc r + n = omega arith in rw z (row-zero (suc r) m n (omega arith) (and-right (zeroOutside taps 0 (rowOf taps cs r)) _ e))
+  row-zero r (suc m) (suc n) h e = let z : r + suc n ≡ suc r + n =
+      omega arith in rw z (row-zero (suc r) m n (omega arith) (and-right (zeroOutside taps 0 (rowOf taps cs r)) _ e))
 
   pub row-centred : (n : ℕ) → n < 64 → rowsOutside taps cs 0 64 ≡ true → zeroOutside taps 0 (rowOf taps cs n) ≡ true
   row-centred n h e = let z : 0 + n ≡ n = omega arith in rw z at (row-zero 0 64 n h e)

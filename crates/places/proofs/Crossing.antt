@@ -67,7 +67,8 @@ back f w =
 
 module _ {A : Type 0} (first second : A → ℤ) (d : A) where
   -- numbers of one kind in front of others
-  pairs-fit : (kind : ℕ) (xs : List A) (kinds : List ℕ) (l : List ℤ) → ((n : ℕ) → isKind kind (first (getD xs n d)) ≡ true) → ((n : ℕ) → isKind kind (second (getD xs n d)) ≡ true)
+  pairs-fit : (kind : ℕ) (xs : List A) (kinds : List ℕ) (l : List ℤ) → ((n : ℕ) → isKind kind (first (getD xs n d)) ≡ true)
+      → ((n : ℕ) → isKind kind (second (getD xs n d)) ≡ true)
       → areKinds kinds l ≡ true → areKinds (replicate (2 * length xs) kind ++ kinds) (flatPairs first second xs ++ l) ≡ true
   unfolding areKinds flatPairs
   pairs-fit kind [] kinds l a b e = e

@@ -49,11 +49,13 @@ module _ {A : Type 0} {of : ℤ → ℤ → A} {none : A} {from next count : ℕ
   taken-all {n} {a} t all e enough =
       let part : List ℤ = take (2 * count) (drop from l) in
       let part-long : length part ≡ 2 * count = length-take-le (2 * count) (drop from l) (omega (arith, length-drop from l)) in
-      let of-part : (m : ℕ) → m < 2 * count → at part m ≡ at l (from + m) = λ m h. getD-take (2 * count) (drop from l) m (pos 0) h ∙ getD-drop from l m (pos 0) in
+      let of-part : (m : ℕ) → m < 2 * count → at part m ≡ at l (from + m) = λ m h. getD-take (2 * count) (drop from l) m (pos 0) h
+      ∙ getD-drop from l m (pos 0) in
       let place : (m : ℕ) → next + 2 * m ≡ from + (2 * m + 1) = λ m. omega arith in
       let long : length a ≡ count = t .filled .long ∙ length-replicate count none in
       ext-getD none a (inPairs of part) (omega (arith, in-pairs-long of part))
-      (λ m h. rw (in-pairs-at of none part m (omega arith), of-part (2 * m) (omega arith), of-part (2 * m + 1) (omega arith), ← place m) (t .filled .first m (omega (arith, t .turns))))
+      (λ m h. rw (in-pairs-at of none part m (omega arith), of-part (2 * m) (omega arith), of-part (2 * m + 1) (omega arith), ← place m)
+      (t .filled .first m (omega (arith, t .turns))))
 
 -- ---- two numbers of each
 
@@ -106,7 +108,8 @@ module _ {A : Type 0} {first second : A → ℤ} {from next count : ℕ} {xs : L
   pub put-none : Put first second from next count xs l 0 l
   put-none = record { turns = omega arith; long = refl; pasted = paste-zero l from (flatPairs first second xs) }
 
-  pub put-next : {n : ℕ} {p : List ℤ} (z : A) → Put first second from next count xs l n p → n < count → length xs ≡ count → next ≡ from + 1 → from + 2 * count ≤ length l
+  pub put-next : {n : ℕ} {p : List ℤ} (z : A) → Put first second from next count xs l n p → n < count → length xs ≡ count → next ≡ from + 1
+      → from + 2 * count ≤ length l
       → Put first second from next count xs l (n + 1) (set (set p (from + 2 * n) (first (getD xs n z))) (next + 2 * n) (second (getD xs n z)))
   put-next {n} {p} z w h k e enough =
       let x : A = getD xs n z in
@@ -133,7 +136,8 @@ module _ {A : Type 0} (of : ℤ → ℤ → A) (first second : A → ℤ) where
   in-flat e [] = refl
   in-flat e (x ∷ xs) = λ i. e x i ∷ in-flat e xs i
 
-  pub flat-in : ((a b : ℤ) → first (of a b) ≡ a) → ((a b : ℤ) → second (of a b) ≡ b) → (l : List ℤ) → length l % 2 ≡ 0 → flatPairs first second (inPairs of l) ≡ l
+  pub flat-in : ((a b : ℤ) → first (of a b) ≡ a) → ((a b : ℤ) → second (of a b) ≡ b) → (l : List ℤ) → length l % 2 ≡ 0
+      → flatPairs first second (inPairs of l) ≡ l
   unfolding inPairs flatPairs
   flat-in e k [] h = refl
   flat-in e k (a ∷ []) h = absurd (omega arith)

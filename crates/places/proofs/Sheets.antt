@@ -26,7 +26,8 @@ fit : (p : Params) → TypedSheet p → sheetNumber (sheetNumbers p) ≡ 0
 unfolding placesNumber sheetNumbers areKinds
 fit p t =
     let each : areKinds sheetKinds (sheetNumbers p) ≡ true =
-    and-both (t .taps) (and-both (t .«nco_step») (and-both (t .«period_nominal») (and-both (t .«period_min») (and-both (t .«period_max») (and-both (t .«ted_shift»)
+    and-both (t .taps) (and-both (t .«nco_step»)
+    (and-both (t .«period_nominal») (and-both (t .«period_min») (and-both (t .«period_max») (and-both (t .«ted_shift»)
     (and-both (t .kp) (and-both (t .«kp_shift») (and-both (t .ki) (and-both (t .«ki_shift») (and-both (t .«integrator_max») (and-both (t .«agc_init»)
     (and-both (t .«agc_target») (and-both (t .«agc_shift») (and-both (t .bits) (and-both (t .«q_shift») (and-both (t .«block_log2») refl)))))))))))))))) in
     rw each refl

@@ -39,11 +39,15 @@ pub record Within (p : Params) (l : Loop) : Type 0 where
 
 module _ (p : Params) (k : GoodPeriods p) (f : GoodFields p) where
   -- the integrator's end is not below zero
-  pub end-whole : (n : ℕ) → p .«integrator_max» ≡ pos n → Between (negℤ (integratorEnd p)) (integratorEnd p) (pos 0) × (leZ (negℤ (integratorEnd p)) (integratorEnd p) ≡ true)
+  pub end-whole : (n : ℕ) → p .«integrator_max» ≡ pos n
+      → Between (negℤ (integratorEnd p)) (integratorEnd p) (pos 0) × (leZ (negℤ (integratorEnd p)) (integratorEnd p) ≡ true)
   end-whole n e =
       let top : ℤ = pos (n * 65536) in
       let neg = negℤ top in
-      rw e (record { low = pn-le neg (pos 0) (omega (arith, neg-P top, neg-N top)); high = pn-le (pos 0) top (omega arith) }, pn-le neg top (omega (arith, neg-P top, neg-N top)))
+      rw e (
+        record { low = pn-le neg (pos 0) (omega (arith, neg-P top, neg-N top)); high = pn-le (pos 0) top (omega arith) },
+        pn-le neg top (omega (arith, neg-P top, neg-N top)),
+      )
 
   clampN-within : (z : ℤ) (lo hi : ℕ) → lo ≤ hi → (lo ≤ clampN z lo hi) × (clampN z lo hi ≤ hi)
   clampN-within z lo hi h = between-nat lo hi _ (clamp-between z (pos lo) (pos hi) (pn-le (pos lo) (pos hi) (omega arith)))

@@ -1,5 +1,5 @@
--- What a call on a state answers, and what its answer tells of the faults. The faults of a sheet, of a state and of a block's sizes are looked for in this order,
--- each has a number other than 0, and so an answer of "accepted" says that there is none.
+-- What a call on a state answers, and what its answer tells of the faults. The faults of a sheet, of a state and of a block's sizes are looked for in this
+-- order, each has a number other than 0, and so an answer of "accepted" says that there is none.
 use Prim.Native.Nat.{ℕ, _+_, _*_, _/_, _≤_, _<_}
 use mathlib.Core.Path.{_≡_, sym, ap, _∙_, subst}
 use mathlib.Core.Logic.{inl, inr}
@@ -16,7 +16,8 @@ use Rattle.params.specs.declared.Verdict.{Verdict}
 use Rattle.params.specs.declared.Verdict.the-variants.{Accepted as SheetAccepted, Refused}
 use Rattle.params.specs.Refusal.{Refusal, refusal, nothing, errorRefusal, verdictRefusal}
 use Rattle.params.specs.Judge.{Sheet, unless, firstOf, faults, judged}
-use Rattle.params.proofs.Faults.{Numbered, numbered-append, numbered-unless, first-none, none-first, first-append, error-numbered, refused, faults-numbered, kept, none-at, none-left, none-right}
+use Rattle.params.proofs.Faults.{Numbered, numbered-append, numbered-unless, first-none, none-first, first-append, error-numbered, refused, faults-numbered}
+use Rattle.params.proofs.Faults.{kept, none-at, none-left, none-right}
 use Rattle.params.proofs.Accepted.{Accepted as AcceptedSheet, no-faults}
 use Rattle.state.specs.declared.Frontend.{Frontend}
 use Rattle.state.specs.declared.Position.{Position}
@@ -81,12 +82,14 @@ not-none {r} {q} e h = let n : r .number ≡ q .number = ap (λ (x : Refusal). x
 -- ---- a sheet, then a state
 
 -- what judging refuses, all calls refuse
-pub sheet-refuses : (s : Sheet) (rest : List Refusal) {v : Verdict} {e : ParamError} → verdictRefusal v ≡ judged s → v ≡ Refused e → errorRefusal e ≡ firstOf (faults s ++ rest)
+pub sheet-refuses : (s : Sheet) (rest : List Refusal) {v : Verdict} {e : ParamError} → verdictRefusal v ≡ judged s → v ≡ Refused e
+    → errorRefusal e ≡ firstOf (faults s ++ rest)
 unfolding judged
 sheet-refuses s rest {v} {e} told is = first-answer (faults s) rest (error-numbered e) (refused told is)
 
 -- of an accepted sheet the state's test decides
-pub state-answer : (s : Sheet) (f : Frontend) {b : Bool} → faults s ≡ [] → goodState (s .params) f ≡ b → firstOf (unless b (refusal 9 [])) ≡ firstOf (stateFaults s f)
+pub state-answer : (s : Sheet) (f : Frontend) {b : Bool} → faults s ≡ [] → goodState (s .params) f ≡ b
+    → firstOf (unless b (refusal 9 [])) ≡ firstOf (stateFaults s f)
 state-answer s f none e = sym (first-rest (faults s) _ none ∙ ap (λ (b : Bool). firstOf (unless b (refusal 9 []))) e)
 
 -- where a state stands

@@ -71,7 +71,8 @@ reads-numeral n = elim (decLe 1 n) [
       let f = first (suc n) n (omega arith) in
       let d : 0 < f .0 = f .4 p in
       let e : (48 + f .0 ≡ 48 → ⊥) = λ (z : 48 + f .0 ≡ 48). omega arith in
-      ap (λ (l : List ℕ). numeral l) (f .2) ∙ rw (ne-eqb (48 + f .0) 48 e) (ap (λ (l : List ℕ). digitsAfter 0 l) (sym (f .2)) ∙ reads-digits (suc n) n (omega arith))
+      ap (λ (l : List ℕ). numeral l) (f .2)
+      ∙ rw (ne-eqb (48 + f .0) 48 e) (ap (λ (l : List ℕ). digitsAfter 0 l) (sym (f .2)) ∙ reads-digits (suc n) n (omega arith))
   | no p ↦
       let z : n ≡ 0 = omega arith in
       ap (λ (m : ℕ). numeral (decimal m)) z ∙ ap (λ (l : List ℕ). numeral l) (W.one-digit 0 (omega arith)) ∙ ap some (sym z)
@@ -85,7 +86,8 @@ reads-text down up (pos n) h =
     ap (λ (l : List ℕ). fieldIn down up l) (f .2)
     ∙ rw (ne-eqb (48 + f .0) 45 e)
     (ap (λ (l : List ℕ). plain up (numeral l)) (sym (f .2)) ∙ ap (λ (w : Said). plain up w) (reads-numeral n) ∙ rw (le-ltb up n h) refl)
-reads-text down up (negsuc n) h = ap (λ (w : Said). negative down w) (reads-numeral (suc n)) ∙ rw (ne-eqb (suc n) 0 (λ (z : suc n ≡ 0). omega arith), le-ltb down (suc n) h) refl
+reads-text down up (negsuc n) h = ap (λ (w : Said). negative down w) (reads-numeral (suc n))
+    ∙ rw (ne-eqb (suc n) 0 (λ (z : suc n ≡ 0). omega arith), le-ltb down (suc n) h) refl
 
 -- ---- what is read is printed
 
@@ -101,12 +103,14 @@ one-more : (v b : ℕ) → 0 < v → 48 ≤ b → b ≤ 57 → decimal (v * 10 +
 one-more v b p l h =
     let q : (v * 10 + (b - 48)) / 10 ≡ v = omega arith in
     let r : 48 + (v * 10 + (b - 48)) % 10 ≡ b = omega arith in
-    W.more-digits (v * 10 + (b - 48)) (omega arith) ∙ ap (λ (m : ℕ). decimal m ++ ((48 + (v * 10 + (b - 48)) % 10) ∷ [])) q ∙ ap (λ (m : ℕ). decimal v ++ (m ∷ [])) r
+    W.more-digits (v * 10 + (b - 48)) (omega arith) ∙ ap (λ (m : ℕ). decimal m ++ ((48 + (v * 10 + (b - 48)) % 10) ∷ [])) q
+    ∙ ap (λ (m : ℕ). decimal v ++ (m ∷ [])) r
 
 prints-digits : (v n : ℕ) (l : List ℕ) → 0 < v → digitsAfter v l ≡ some n → decimal n ≡ decimal v ++ l
 unfolding digitsAfter
 prints-digits v n [] p e = let s : v ≡ n = cc in ap decimal (sym s) ∙ sym (append-nil (decimal v))
-prints-digits v n (b ∷ t) p e = go (isDigit b) refl e (λ (q : 0 < v * 10 + (b - 48)) (f : digitsAfter (v * 10 + (b - 48)) t ≡ some n). prints-digits (v * 10 + (b - 48)) n t q f)
+prints-digits v n (b ∷ t) p e = go (isDigit b) refl e
+    (λ (q : 0 < v * 10 + (b - 48)) (f : digitsAfter (v * 10 + (b - 48)) t ≡ some n). prints-digits (v * 10 + (b - 48)) n t q f)
   where
     go : (q : Bool) → isDigit b ≡ q → cond q (digitsAfter (v * 10 + (b - 48)) t) none ≡ some n
         → (0 < v * 10 + (b - 48) → digitsAfter (v * 10 + (b - 48)) t ≡ some n → decimal n ≡ decimal (v * 10 + (b - 48)) ++ t) → decimal n ≡ decimal v ++ (b ∷ t)
@@ -124,7 +128,8 @@ unfolding numeral digitsAfter
 prints-numeral [] n e = absurd (let z : _≡_ {A = ℕ} 0 1 = cc in omega arith)
 prints-numeral (b ∷ t) n e = go (eqb b 48) (isDigit b) refl refl e
   where
-    go : (p q : Bool) → eqb b 48 ≡ p → isDigit b ≡ q → cond p (nothingAfterZero t) (cond q (digitsAfter (0 * 10 + (b - 48)) t) none) ≡ some n → decimal n ≡ b ∷ t
+    go : (p q : Bool) → eqb b 48 ≡ p → isDigit b ≡ q → cond p (nothingAfterZero t) (cond q (digitsAfter (0 * 10 + (b - 48)) t) none) ≡ some n
+        → decimal n ≡ b ∷ t
     go true q x y f = prints-zero n t f ∙ ap (λ (m : ℕ). m ∷ t) (sym (eqb-true b 48 x))
     go false true x y f =
         let r = digit-range b y in

@@ -83,7 +83,8 @@ settled a b not-open = elim (decLe (suc 1024) (length (before 10 a))) [
     | no f ↦
         let k : length (before 10 a) < length a = omega arith in
         let e : length (before 10 (a ++ b)) ≡ length (before 10 a) = ap (λ (l : List ℕ). length l) (before-more 10 a b k) in
-        sym (ends-after (a ++ b) (length (before 10 a)) e (omega arith) (omega (arith, length-append a b))) ∙ ends-after a (length (before 10 a)) refl (omega arith) k
+        sym (ends-after (a ++ b) (length (before 10 a)) e (omega arith) (omega (arith, length-append a b)))
+        ∙ ends-after a (length (before 10 a)) refl (omega arith) k
   ]
 ]
 
@@ -185,7 +186,8 @@ module _ (s : List ℕ) (at end : ℕ) (is-end : end ≡ at + length (before 44 
 -- ---- one field more: its type is number n
 
 module _ (ks : List ℕ) (n : ℕ) where
-  pub worst-step : n < length ks → (f : List ℕ) (fs : List (List ℕ)) → worst (drop n ks) (f ∷ fs) ≡ max (fieldOf (getD ks n 0) f .fault) (worst (drop (n + 1) ks) fs)
+  pub worst-step : n < length ks → (f : List ℕ) (fs : List (List ℕ))
+      → worst (drop n ks) (f ∷ fs) ≡ max (fieldOf (getD ks n 0) f .fault) (worst (drop (n + 1) ks) fs)
   unfolding worst
   worst-step h f fs = rw (add-one, drop-cons ks n 0 h)
 
@@ -221,7 +223,8 @@ values-none (k ∷ ks) = refl
 -- ---- what is left of a line, after n fields: `fs`, with the worst fault so far and the places as they are
 
 abbrev pub Left : List ℕ → List ℕ → List ℤ → List ℤ → ℕ → ℕ → List (List ℕ) → Type 0
-Left ks s out₀ out n fault fs = (worst ks (parted s) ≡ max fault (worst (drop n ks) fs)) × (sets out₀ 0 (values ks (parted s)) ≡ sets out n (values (drop n ks) fs))
+Left ks s out₀ out n fault fs = (worst ks (parted s) ≡ max fault (worst (drop n ks) fs)) ×
+    (sets out₀ 0 (values ks (parted s)) ≡ sets out n (values (drop n ks) fs))
 
 module _ (ks s : List ℕ) (out₀ out : List ℤ) (n fault : ℕ) where
   pub left-step : (f : List ℕ) (fs : List (List ℕ)) → Left ks s out₀ out n fault (f ∷ fs) → n < length ks → (fieldOf (getD ks n 0) f .fault ≡ 2 → ⊥)
@@ -230,7 +233,8 @@ module _ (ks s : List ℕ) (out₀ out : List ℤ) (n fault : ℕ) where
       let e = worst-step ks n h f fs in
       let b : worst (drop (n + 1) ks) fs ≤ 2 = worst-le (drop (n + 1) ks) fs in (
         l .0 ∙ omega arith,
-        l .1 ∙ ap (λ (vs : List ℤ). sets out n vs) (values-step ks n h f fs w) ∙ ap (λ (k : ℕ). sets (set out n (fieldOf (getD ks n 0) f .value)) k (values (drop (n + 1) ks) fs)) (sym (add-one n)),
+        l .1 ∙ ap (λ (vs : List ℤ). sets out n vs) (values-step ks n h f fs w)
+            ∙ ap (λ (k : ℕ). sets (set out n (fieldOf (getD ks n 0) f .value)) k (values (drop (n + 1) ks) fs)) (sym (add-one n)),
       )
 
   pub left-whole : Left ks s out₀ out n fault [] → length ks ≤ n → Reading ks s out₀ (numberOf fault) out

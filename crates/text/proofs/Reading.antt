@@ -97,12 +97,14 @@ unfolding fieldIn
 no-bytes [] down up h = refl
 no-bytes (b ∷ t) down up h = absurd (omega arith)
 
-pub with-minus : (s : List ℕ) (down up : ℕ) → 0 < length s → getD s 0 0 ≡ 45 → down ≤ 2 ^ 63 → belowZero down (keptDigits (numeral (drop 1 s))) ≡ fieldIn down up s
+pub with-minus : (s : List ℕ) (down up : ℕ) → 0 < length s → getD s 0 0 ≡ 45 → down ≤ 2 ^ 63
+    → belowZero down (keptDigits (numeral (drop 1 s))) ≡ fieldIn down up s
 unfolding fieldIn
 with-minus [] down up h e d = absurd (omega arith)
 with-minus (b ∷ t) down up h e d = rw (eq-eqb b 45 e) (below-is down (numeral t) d)
 
-pub without-minus : (s : List ℕ) (down up : ℕ) → 0 < length s → (getD s 0 0 ≡ 45 → ⊥) → up ≤ 2 ^ 63 → aboveZero up (keptDigits (numeral (drop 0 s))) ≡ fieldIn down up s
+pub without-minus : (s : List ℕ) (down up : ℕ) → 0 < length s → (getD s 0 0 ≡ 45 → ⊥) → up ≤ 2 ^ 63
+    → aboveZero up (keptDigits (numeral (drop 0 s))) ≡ fieldIn down up s
 unfolding fieldIn
 without-minus [] down up h e d = absurd (omega arith)
 without-minus (b ∷ t) down up h e d = rw (ne-eqb b 45 e) (above-is up (numeral (b ∷ t)) d)

@@ -76,7 +76,8 @@ as-last (suc k) n h l =
     let least : 10 ^ k * 10 ≤ n = subst (λ (x : ℕ). x ≤ n) (pow-suc 10 k) (l (zero-lt-suc k)) in
     let one : 10 ^ 0 ≤ 10 ^ k = pow-le-pow-right (zero-lt-suc 9) {i = 0} {j = k} (omega arith) in
     more-digits n (omega arith)
-    ∙ ap (λ (l : List ℕ). l ++ ((48 + n % 10) ∷ [])) (as-last k (n / 10) (div-lt-iff-lt-mul (zero-lt-suc 9) .1 below) (λ (p : 0 < k). le-div-iff-mul-le (zero-lt-suc 9) .1 least))
+    ∙ ap (λ (l : List ℕ). l ++ ((48 + n % 10) ∷ []))
+    (as-last k (n / 10) (div-lt-iff-lt-mul (zero-lt-suc 9) .1 below) (λ (p : 0 < k). le-div-iff-mul-le (zero-lt-suc 9) .1 least))
 
 -- A number of 64 bits has at most 20 digits.
 pub at-most-20 : (k n : ℕ) → n < 2 ^ 64 → (0 < k → 10 ^ k ≤ n) → k < 20
@@ -116,7 +117,8 @@ behind-is zs n = elim (decLe (length zs) n) [
   | no g ↦ let h : n < length zs = omega arith in rw (lt-ltb n (length zs) h, drop-cons zs n (pos 0) h) refl
 ]
 
-pub row-step : (zs : List ℤ) (n : ℕ) → n < length zs → lineText (drop n zs) ≡ textOf (getD zs n (pos 0)) ++ (cond (ltb (n + 1) (length zs)) 44 10 ∷ lineText (drop (n + 1) zs))
+pub row-step : (zs : List ℤ) (n : ℕ) → n < length zs
+    → lineText (drop n zs) ≡ textOf (getD zs n (pos 0)) ++ (cond (ltb (n + 1) (length zs)) 44 10 ∷ lineText (drop (n + 1) zs))
 unfolding lineText
 row-step zs n h = rw (behind-is zs (n + 1), add-one, drop-cons zs n (pos 0) h)
 

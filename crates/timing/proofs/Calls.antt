@@ -23,7 +23,8 @@ module _ (s : Sheet) where
 
   -- an answer, once its refusal's number is known to be 0 or not
   answer-is : (f : Frontend) (c : Call) (b : Bool) → eqb (number f c) 0 ≡ b
-      → answer s f c ≡ cond b (accepted s f (c .values) (c .out)) (record { refused = firstOf (blockFaults s f (length (c .values)) (length (c .out))); state = f; count = 0; output = c .out })
+      → answer s f c ≡ cond b (accepted s f (c .values) (c .out))
+      (record { refused = firstOf (blockFaults s f (length (c .values)) (length (c .out))); state = f; count = 0; output = c .out })
   unfolding blockOf
   answer-is f c b e = rw e
 

@@ -1,5 +1,5 @@
--- The errors of a run's symbols, and the loop that they make: its integrator, period and gain are what the errors of earlier symbols, one after the other, make of the first ones.
--- However many errors there were, each of the three stays within its clamp.
+-- The errors of a run's symbols, and the loop that they make: its integrator, period and gain are what the errors of earlier symbols, one after the other,
+-- make of the first ones. However many errors there were, each of the three stays within its clamp.
 use Prim.Native.Nat.{ℕ, zero, suc, _+_, _<_}
 use mathlib.Core.Path.{_≡_, refl, ap}
 use mathlib.Core.List.{List, [], _∷_, _++_}

@@ -1,5 +1,5 @@
--- A list of block calls never meets refusal 9. The invariant of runs gives each test that a block makes of a state: the registers stay within their clamps, the positions
--- within the line and the queue, and there is at most one symbol a sample. So only what a call brings itself, 10 to 12, can refuse it.
+-- A list of block calls never meets refusal 9. The invariant of runs gives each test that a block makes of a state: the registers stay within their clamps,
+-- the positions within the line and the queue, and there is at most one symbol a sample. So only what a call brings itself, 10 to 12, can refuse it.
 use Prim.Native.Nat.{ℕ, _+_, _*_, _/_, _%_, _≤_}
 use mathlib.Core.Path.{_≡_, refl, sym, ap, _∙_, subst}
 use mathlib.Core.Logic.{_⊎_, inl, inr}
@@ -71,6 +71,7 @@ states-go-on s ok cs c =
     let none : faults s ≡ [] = judged-none s ok in
     let f : Frontend = endState s cs in
     let g = good (s .params) f (going s (no-faults s none) f _ (ends-inv s ok cs)) in
-    let e : stateFaults s f ≡ [] = ap (λ (l : List Refusal). l ++ unless (goodState (s .params) f) (refusal 9 [])) none ∙ ap (λ (b : Bool). unless b (refusal 9 [])) g in
+    let e : stateFaults s f ≡ [] = ap (λ (l : List Refusal). l ++ unless (goodState (s .params) f) (refusal 9 [])) none
+    ∙ ap (λ (b : Bool). unless b (refusal 9 [])) g in
     subst Own (sym (numbered s f c))
     (own (stateFaults s f) e f (length (c .values)) (length (c .out)))

@@ -184,10 +184,17 @@ module _ (s : Sheet) where
       where
         go : (e : Bool) → eqb j (length S) ≡ e → getD (set l (length S % 24) w) (j % 24) noPending ≡ getD (errors S ++ (w ∷ [])) j noPending
         go true e =
-            rw (eqb-true j (length S) e, getD-set-same l (length S % 24) w noPending (omega arith), getD-at (errors S) w [] noPending (length S) (length-errors S))
+            rw (
+              eqb-true j (length S) e,
+              getD-set-same l (length S % 24) w noPending (omega arith),
+              getD-at (errors S) w [] noPending (length S) (length-errors S),
+            )
         go false e =
             let d : j ≢ length S = eqb-false j (length S) e in
-            rw (getD-set-other l (length S % 24) (j % 24) w noPending (omega arith), List·getD-append (errors S) (w ∷ []) noPending j (omega (arith, length-errors S)))
+            rw (
+              getD-set-other l (length S % 24) (j % 24) w noPending (omega arith),
+              List·getD-append (errors S) (w ∷ []) noPending j (omega (arith, length-errors S)),
+            )
             (q j (omega arith) (omega arith))
 
     waiting-next : (n c : ℕ) → c ≡ min n loopDelay → cond (eqb c loopDelay) loopDelay (c + 1) ≡ min (n + 1) loopDelay
@@ -234,7 +241,8 @@ module _ (s : Sheet) where
           size = length-set (f .pending) _ _ ∙ i .size;
           waiting = rw len (waiting-next (length S) (f .waiting) (i .waiting));
           oldest = rw len (oldest-next (length S) (f .waiting) (f .oldest) (i .waiting) (i .oldest));
-          queue = λ j u v. rw (slot f S i, errors-append S (y ∷ [])) (queue-snoc (f .pending) S (errorsOf y) (i .size) (i .queue) j (omega arith) (omega arith));
+          queue = λ j u v. rw (slot f S i, errors-append S (y ∷ []))
+              (queue-snoc (f .pending) S (errorsOf y) (i .size) (i .queue) j (omega arith) (omega arith));
           few = omega arith;
           head = i .head;
         }

@@ -26,7 +26,8 @@ use Rattle.symbol.specs.Places.{placesOf}
 use Rattle.fixed.specs.Sample.{after, emitted}
 use Rattle.fixed.specs.Block.{flattened}
 use Rattle.timing.specs.Lists.{Call, startState, samplesOf, endState, placesWritten, symbolCount}
-use Rattle.timing.specs.Timing.{placeAt, sampleAt, phaseAt, gainAt, periodAt, periodsBefore, Whole, Place, Apart, Rest, AgreeUpTo, Delayed, SameRun, TimingHolds}
+use Rattle.timing.specs.Timing.{placeAt, sampleAt, phaseAt, gainAt, periodAt, periodsBefore, Whole, Place, Apart, Rest, AgreeUpTo, Delayed, SameRun}
+use Rattle.timing.specs.Timing.{TimingHolds}
 use Rattle.fixed.proofs.Runs.{emitted-append, length-flattened, place-flattened, run-samples}
 use Rattle.timing.proofs.Calls.{calls-state, calls-written, calls-counted}
 use Rattle.registers.proofs.Loops.{Loop}
@@ -86,7 +87,8 @@ module _ (s : Sheet) (a : Accepted s) where
   unfolding f₀ fresh
   end-samples xs = omega (arith, run-samples s f₀ xs)
 
-  period-within : (xs : List Pair) (k : ℕ) → k < length (run xs) → (s .params .«period_min» ≤ at (run xs) k .period) × (at (run xs) k .period ≤ s .params .«period_max»)
+  period-within : (xs : List Pair) (k : ℕ) → k < length (run xs)
+      → (s .params .«period_min» ≤ at (run xs) k .period) × (at (run xs) k .period ≤ s .params .«period_max»)
   period-within xs k h =
       let w = loopAt-within s a (take k (run xs)) (loopDelay - 1) in
       rw (placed xs k h .period) (w .low, w .high)
@@ -137,7 +139,8 @@ module _ (s : Sheet) (a : Accepted s) where
       let b : m < suc n = omega (arith, length-take-le (suc n) xs (g .here)) in
       rw (getD-take (suc n) xs m noPair b, getD-take (suc n) ys m noPair b) (g .same m (omega arith)))
 
-  same-front : (xs ys : List Pair) (i n : ℕ) → i < length (run xs) → n ≡ at (run xs) i .sample → AgreeUpTo n xs ys → take (suc i) (run xs) ≡ take (suc i) (run ys)
+  same-front : (xs ys : List Pair) (i n : ℕ) → i < length (run xs) → n ≡ at (run xs) i .sample → AgreeUpTo n xs ys
+      → take (suc i) (run xs) ≡ take (suc i) (run ys)
   same-front xs ys i n h e g =
       let q = reach xs i n h e (g .here) in
       let F : List Symbol = run (take (suc n) xs) in
@@ -147,15 +150,23 @@ module _ (s : Sheet) (a : Accepted s) where
       ∙ sym (take-append-le (suc i) G _ (rw same at q)) ∙ ap (take (suc i)) (sym (split ys (suc n)))
 
   -- the loop at symbol k, by the symbols whose errors it uses
-  loop-of-take : (Y : List Symbol) (k : ℕ) → k ≤ length Y → loopAt s (take k Y) (loopDelay - 1) ≡ movedBy (s .params) (freshLoop (s .params)) (errors (take (k - (loopDelay - 1)) Y))
-  loop-of-take Y k h = rw (length-take-le k Y h, errors-take k Y, errors-take (k - (loopDelay - 1)) Y, take-take (k - (loopDelay - 1)) k (errors Y) (omega arith))
+  loop-of-take : (Y : List Symbol) (k : ℕ) → k ≤ length Y
+      → loopAt s (take k Y) (loopDelay - 1) ≡ movedBy (s .params) (freshLoop (s .params)) (errors (take (k - (loopDelay - 1)) Y))
+  loop-of-take Y k h = rw (
+    length-take-le k Y h,
+    errors-take k Y,
+    errors-take (k - (loopDelay - 1)) Y,
+    take-take (k - (loopDelay - 1)) k (errors Y) (omega arith),
+  )
 
   -- 24 symbols ahead each uses only the errors of symbols that are the same
   module _ (xs ys : List Pair) (i : ℕ) (front : take (suc i) (run xs) ≡ take (suc i) (run ys)) where
-    loop-alike : (k : ℕ) → k ≤ i + loopDelay → k < length (run xs) → k < length (run ys) → loopAt s (take k (run xs)) (loopDelay - 1) ≡ loopAt s (take k (run ys)) (loopDelay - 1)
+    loop-alike : (k : ℕ) → k ≤ i + loopDelay → k < length (run xs) → k < length (run ys)
+        → loopAt s (take k (run xs)) (loopDelay - 1) ≡ loopAt s (take k (run ys)) (loopDelay - 1)
     loop-alike k h x y =
         loop-of-take (run xs) k (omega arith)
-        ∙ ap (λ (l : List Symbol). movedBy (s .params) (freshLoop (s .params)) (errors l)) (take-less (k - (loopDelay - 1)) (suc i) (run xs) (run ys) (omega arith) front)
+        ∙ ap (λ (l : List Symbol). movedBy (s .params) (freshLoop (s .params)) (errors l))
+        (take-less (k - (loopDelay - 1)) (suc i) (run xs) (run ys) (omega arith) front)
         ∙ sym (loop-of-take (run ys) k (omega arith))
 
     period-alike : (k : ℕ) → k ≤ i + loopDelay → k < length (run xs) → k < length (run ys) → at (run xs) k .period ≡ at (run ys) k .period
@@ -274,7 +285,8 @@ module _ (s : Sheet) (ok : startOf s .refused ≡ nothing) where
 
   -- ---- two lists
 
-  delay : (cs ds : List Call) (i n : ℕ) → i < symbolCount s cs → sampleAt (placesWritten s cs) i ≡ pos n → AgreeUpTo n (samplesOf s cs) (samplesOf s ds) → Delayed s cs ds i
+  delay : (cs ds : List Call) (i n : ℕ) → i < symbolCount s cs → sampleAt (placesWritten s cs) i ≡ pos n → AgreeUpTo n (samplesOf s cs) (samplesOf s ds)
+      → Delayed s cs ds i
   unfolding runOf
   delay cs ds i n h e g =
       let xs = samplesOf s cs in
@@ -288,7 +300,8 @@ module _ (s : Sheet) (ok : startOf s .refused ≡ nothing) where
       record {
         has = rw (counts ds) has;
         same = λ k b j q.
-            let same : at Y k ≡ at Z k = sym (getD-take (suc i) Y k noSymbol (omega arith)) ∙ ap (λ (w : List Symbol). at w k) front ∙ getD-take (suc i) Z k noSymbol (omega arith) in
+            let same : at Y k ≡ at Z k = sym (getD-take (suc i) Y k noSymbol (omega arith)) ∙ ap (λ (w : List Symbol). at w k) front
+            ∙ getD-take (suc i) Z k noSymbol (omega arith) in
             rw (wrote cs, wrote ds, place-at Y k j (omega arith) q, place-at Z k j (omega arith) q, same);
         ahead = λ k b u v.
             let near : k ≤ i + loopDelay = omega arith in

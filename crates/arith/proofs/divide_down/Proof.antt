@@ -1,5 +1,5 @@
--- `arith::divide_down` meets its contract: of a number below zero, -(a + 1), the code divides a, which rounds toward zero, and flips the quotient back, which makes it round down.
--- Any number divided by 0 is 0 in the definition's ℕ, so the sign is left.
+-- `arith::divide_down` meets its contract: of a number below zero, -(a + 1), the code divides a, which rounds toward zero, and flips the quotient back, which
+-- makes it round down. Any number divided by 0 is 0 in the definition's ℕ, so the sign is left.
 use Prim.Native.Nat.{ℕ, _/_, _^_, _<_}
 use mathlib.Core.Path.{_≡_, sym, ap, _∙_}
 use native.Mathlib.Nat.{div-le-self}
@@ -69,7 +69,15 @@ returns-2 c =
     let a = mag n in
     let m = c .before .before .args .m in
     let q = quotient-small a m (small c) in
-    simp (n-is c, flip-down, toZ-ofZ (fits-pos a (small c)), whole m (c .before .before .fits .m), toZ-ofZ (fits-pos (a / m) q), flip-up, toZ-ofZ (fits-neg (a / m) q))
+    simp (
+      n-is c,
+      flip-down,
+      toZ-ofZ (fits-pos a (small c)),
+      whole m (c .before .before .fits .m),
+      toZ-ofZ (fits-pos (a / m) q),
+      flip-up,
+      toZ-ofZ (fits-neg (a / m) q),
+    )
     (ap (λ (z : ℤ). shrZ z m) (sym (sym (toZ-ofZ (c .before .before .fits .n)) ∙ n-is c)))
 
 -- ---- not below zero

@@ -1,5 +1,5 @@
--- `arith::round_shift` meets its contract: R of s places is the upper half of what a shift by s - 1 leaves (Rounding, `round-halves`), and that half is no larger, so it fits.
--- Past 63 places R of any 64-bit number is 0.
+-- `arith::round_shift` meets its contract: R of s places is the upper half of what a shift by s - 1 leaves (Rounding, `round-halves`), and that half is no
+-- larger, so it fits. Past 63 places R of any 64-bit number is 0.
 use Prim.Native.Nat.{_-_, _^_}
 use mathlib.Core.Path.{sym}
 use native.Mathlib.Omega.{arith}

@@ -1,5 +1,5 @@
--- `arith::wrap_u32` meets its contract: the machine's remainder is below 2^32 in magnitude and differs from v by a multiple of 2^32, and so does what the code makes of it.
--- Only one number from 0 to 2^32 - 1 does (Modulus, `mod-only`).
+-- `arith::wrap_u32` meets its contract: the machine's remainder is below 2^32 in magnitude and differs from v by a multiple of 2^32, and so does what the
+-- code makes of it. Only one number from 0 to 2^32 - 1 does (Modulus, `mod-only`).
 use Prim.Native.Nat.{_+_, _^_, _≤_, _<_}
 use mathlib.Core.Path.{_≡_}
 use mathlib.Core.Bool.{true}

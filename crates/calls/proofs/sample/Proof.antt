@@ -92,7 +92,8 @@ loop-again c =
       omega arith,
       length-set (l .values) (l .n) (toZ w16 (ofZ w16 (made .result))) ∙ l .inv .1,
       rw (is, l .inv .2, one)
-          (simp zero-add (simp zero-add at (paste-suc (a .values .now) 0 next (l .n) (componentOf nan) (omega arith) (omega (arith, length-map (a .floats .now) componentOf))))),
+          (simp zero-add (simp zero-add at
+          (paste-suc (a .values .now) 0 next (l .n) (componentOf nan) (omega arith) (omega (arith, length-map (a .floats .now) componentOf))))),
     )
 
 same-length : tie.Need-same-length Inv-loop μ-loop
@@ -107,7 +108,8 @@ returns-3 c =
     let values = a .values .now in
     let next : List ℤ = map componentOf floats in
     let e : l .n ≡ length floats = omega arith in
-    let long : _≡_ {A = ℕ} 0 (cond (leb (length floats) (length values)) 0 11) = rw (le-leb (length floats) (length values) (c .before .before .if2 .left)) refl in
+    let long : _≡_ {A = ℕ} 0 (cond (leb (length floats) (length values)) 0 11) =
+    rw (le-leb (length floats) (length values) (c .before .before .if2 .left)) refl in
     let all : paste values 0 next (length floats) ≡ next ++ drop (length floats) values =
     simp (zero-add, take-all (length floats) next (omega (arith, length-map floats componentOf))) in
     writes _ _ _ (even floats values (c .before .before .before .if1 .left) long) (rw e at (l .inv .2) ∙ all)

@@ -19,7 +19,8 @@ abbrev sheet : tie.Start → Sheet
 sheet s = sheetOf (s .args .p) (s .args .h .now) (s .args .g .now) (s .args .k .now)
 
 -- a block that is accepted, and one that is refused
-runs : (s : Sheet) (f : Frontend) (values out : List ℤ) {b : Block} → blockFaults s f (length values) (length out) ≡ [] → b ≡ accepted s f values out → b ≡ blockOf s f values out
+runs : (s : Sheet) (f : Frontend) (values out : List ℤ) {b : Block} → blockFaults s f (length values) (length out) ≡ [] → b ≡ accepted s f values out
+    → b ≡ blockOf s f values out
 unfolding blockOf
 runs s f values out none e = rw none e
 
@@ -40,7 +41,8 @@ faultless : (c : tie.After-enum-told)
 faultless c =
     let t = c .before .before in
     let s = t .before in
-    passes (block-numbered (sheet s) (s .args .f) (length (s .args .values .now)) (length (s .args .out .now))) (t .check-block .ensures) (c .enum-told .given .1)
+    passes (block-numbered (sheet s) (s .args .f) (length (s .args .values .now)) (length (s .args .out .now))) (t .check-block .ensures)
+    (c .enum-told .given .1)
 
 run-requires : tie.Need-run-requires
 run-requires c κs = faultless (c .before)

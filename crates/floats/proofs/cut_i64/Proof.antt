@@ -27,7 +27,8 @@ returns-3 c = cut-below 63 (c .before .before .args .x) (subst (λ (b : Bool). T
 returns-4 : tie.Need-returns-4
 unfolding ofBits neg
 returns-4 c =
-    cut-nan 63 (c .before .before .args .x) (subst (λ (b : Bool). T (not b)) (sym (c .before .if1 .left)) tt) (subst (λ (b : Bool). T (not b)) (sym (c .if3 .left)) tt)
+    cut-nan 63 (c .before .before .args .x) (subst (λ (b : Bool). T (not b)) (sym (c .before .if1 .left)) tt)
+    (subst (λ (b : Bool). T (not b)) (sym (c .if3 .left)) tt)
 
 pub cut-i64-spec : {M : Type 1} → statement M
 cut-i64-spec = tie.close (tie.spec truncating-f64-to-i64-requires returns returns-2 returns-3 returns-4)

@@ -46,13 +46,15 @@ unfolding ofBits neg
 halved c =
     let s = c .before .before in
     let x = s .args .x in
-    halved-of x (subst T (sym (s .good .0 .1)) tt) (subst T (sym (not-false (lt (bottom 62) x) (c .before .if1 .left))) tt) (subst T (sym (not-false (lt x (top 62)) (c .if2 .left))) tt)
+    halved-of x (subst T (sym (s .good .0 .1)) tt) (subst T (sym (not-false (lt (bottom 62) x) (c .before .if1 .left))) tt)
+    (subst T (sym (not-false (lt x (top 62)) (c .if2 .left))) tt)
 
 truncating-f64-to-i64-requires : tie.Need-truncating-f64-to-i64-requires
 truncating-f64-to-i64-requires c κs = (halved c .doubled .low, halved c .doubled .high)
 
 -- what the code halves
-twice : (c : tie.After-truncating-f64-to-i64) → toZ w64 (ofZ w64 (c .truncating-f64-to-i64 .result)) ≡ signed (halved (c .before) .sign) (halved (c .before) .twice)
+twice : (c : tie.After-truncating-f64-to-i64)
+    → toZ w64 (ofZ w64 (c .truncating-f64-to-i64 .result)) ≡ signed (halved (c .before) .sign) (halved (c .before) .twice)
 twice c = held w64 (c .truncating-f64-to-i64 .result) (c .truncating-f64-to-i64 .ok) ∙ c .truncating-f64-to-i64 .ensures ∙ halved (c .before) .doubled .cut
 
 div-result : tie.Need-div-result

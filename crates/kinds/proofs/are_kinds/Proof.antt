@@ -71,7 +71,8 @@ returns-2 c =
     let a = c .before .before .before .before .args in
     let l = c .before .loop in
     sym (l .inv .1
-    ∙ ap (λ (k : List ℕ). l .good && areKinds k (drop (l .n) (a .places .now))) (drop-of-length-le (a .kinds .now) {i = l .n} (omega arith)) ∙ and-true (l .good))
+    ∙ ap (λ (k : List ℕ). l .good && areKinds k (drop (l .n) (a .places .now))) (drop-of-length-le (a .kinds .now) {i = l .n} (omega arith))
+    ∙ and-true (l .good))
 
 pub are-kinds-spec : {M : Type 1} → statement M
 are-kinds-spec =

@@ -14,11 +14,13 @@ returns-2 c = let kind = c .before .before .args .kind in simp (ne-eqb kind i16 
 
 returns-3 : tie.Need-returns-3
 unfolding leastOf
-returns-3 c = let kind = c .before .before .before .args .kind in simp (ne-eqb kind i16 (c .before .before .if1 .left), ne-eqb kind i32 (c .before .if2 .left), eq-eqb kind i64 (c .if3 .taken))
+returns-3 c = let kind = c .before .before .before .args .kind in simp
+    (ne-eqb kind i16 (c .before .before .if1 .left), ne-eqb kind i32 (c .before .if2 .left), eq-eqb kind i64 (c .if3 .taken))
 
 returns-4 : tie.Need-returns-4
 unfolding leastOf
-returns-4 c = let kind = c .before .before .before .args .kind in simp (ne-eqb kind i16 (c .before .before .if1 .left), ne-eqb kind i32 (c .before .if2 .left), ne-eqb kind i64 (c .if3 .left))
+returns-4 c = let kind = c .before .before .before .args .kind in simp
+    (ne-eqb kind i16 (c .before .before .if1 .left), ne-eqb kind i32 (c .before .if2 .left), ne-eqb kind i64 (c .if3 .left))
 
 pub least-of-spec : {M : Type 1} → statement M
 least-of-spec = tie.close (tie.spec returns returns-2 returns-3 returns-4)

@@ -22,13 +22,23 @@ returns-4 : tie.Need-returns-4
 unfolding mostOf
 returns-4 c =
     let kind = c .before .before .before .before .args .kind in
-    simp (ne-eqb kind u8 (c .before .before .before .if1 .left), ne-eqb kind u32 (c .before .before .if2 .left), ne-eqb kind i16 (c .before .if3 .left), eq-eqb kind i32 (c .if4 .taken))
+    simp (
+      ne-eqb kind u8 (c .before .before .before .if1 .left),
+      ne-eqb kind u32 (c .before .before .if2 .left),
+      ne-eqb kind i16 (c .before .if3 .left),
+      eq-eqb kind i32 (c .if4 .taken),
+    )
 
 returns-5 : tie.Need-returns-5
 unfolding mostOf
 returns-5 c =
     let kind = c .before .before .before .before .args .kind in
-    simp (ne-eqb kind u8 (c .before .before .before .if1 .left), ne-eqb kind u32 (c .before .before .if2 .left), ne-eqb kind i16 (c .before .if3 .left), ne-eqb kind i32 (c .if4 .left))
+    simp (
+      ne-eqb kind u8 (c .before .before .before .if1 .left),
+      ne-eqb kind u32 (c .before .before .if2 .left),
+      ne-eqb kind i16 (c .before .if3 .left),
+      ne-eqb kind i32 (c .if4 .left),
+    )
 
 pub most-of-spec : {M : Type 1} → statement M
 most-of-spec = tie.close (tie.spec returns returns-2 returns-3 returns-4 returns-5)

@@ -38,14 +38,16 @@ returns-4 : tie.Need-returns-4
 unfolding lengthFaults goodLength
 returns-4 c =
     let f : First _ _ =
-    keeps _ (good (c .before .before .before)) (keeps _ (eq-eqb _ _ (c .before .before .if2 .left)) (keeps _ (eq-eqb _ _ (c .before .if3 .left)) (breaks (lit< tt) (ne-eqb _ _ (c .if4 .taken))))) in
+    keeps _ (good (c .before .before .before))
+    (keeps _ (eq-eqb _ _ (c .before .before .if2 .left)) (keeps _ (eq-eqb _ _ (c .before .if3 .left)) (breaks (lit< tt) (ne-eqb _ _ (c .if4 .taken))))) in
     f .is
 
 returns-5 : tie.Need-returns-5
 unfolding lengthFaults goodLength
 returns-5 c =
     let f : First _ _ =
-    keeps _ (good (c .before .before .before)) (keeps _ (eq-eqb _ _ (c .before .before .if2 .left)) (keeps _ (eq-eqb _ _ (c .before .if3 .left)) (keeps _ (eq-eqb _ _ (c .if4 .left)) none))) in
+    keeps _ (good (c .before .before .before))
+    (keeps _ (eq-eqb _ _ (c .before .before .if2 .left)) (keeps _ (eq-eqb _ _ (c .before .if3 .left)) (keeps _ (eq-eqb _ _ (c .if4 .left)) none))) in
     f .is
 
 pub check-lengths-spec : {M : Type 1} → statement M

@@ -8,7 +8,8 @@ use Rattle.replay_calls.proofs.piece.Tie as tie
 
 abbrev Inv-loop : tie.InvT-loop
 Inv-loop bytes row₀ banks₀ values₀ out₀ cursor₀ replay₀ row banks values out cursor replay =
-    (cursor .at ≤ length bytes) × ((length row ≡ length row₀) × ((length banks ≡ length banks₀) × ((length values ≡ length values₀) × (length out ≡ length out₀))))
+    (cursor .at ≤ length bytes) × ((length row ≡ length row₀) ×
+    ((length banks ≡ length banks₀) × ((length values ≡ length values₀) × (length out ≡ length out₀))))
 
 abbrev μ-loop : tie.MeasureT-loop
 μ-loop bytes row₀ banks₀ values₀ out₀ cursor₀ replay₀ row banks values out cursor replay = length bytes - cursor .at

@@ -20,7 +20,8 @@ is-good-sps-requires : tie.Need-is-good-sps-requires
 is-good-sps-requires c κs = search needs
 
 returns : tie.Need-returns
-returns c = at-sps (c .before .before .before .args .self) (c .before .before .sps .ensures) (sym (c .before .is-good-sps .ensures) ∙ not-true _ (c .if1 .taken))
+returns c = at-sps (c .before .before .before .args .self) (c .before .before .sps .ensures) (sym (c .before .is-good-sps .ensures)
+    ∙ not-true _ (c .if1 .taken))
 
 -- ---- what the tests have said when the next is made
 
@@ -31,7 +32,8 @@ is-good-taps-requires : tie.Need-is-good-taps-requires
 is-good-taps-requires c κs = search needs
 
 returns-2 : tie.Need-returns-2
-returns-2 c = at-taps (c .before .before .before .before .before .args .self) (sps-good (c .before .before)) (sym (c .before .is-good-taps .ensures) ∙ not-true _ (c .if2 .taken))
+returns-2 c = at-taps (c .before .before .before .before .before .args .self) (sps-good (c .before .before)) (sym (c .before .is-good-taps .ensures)
+    ∙ not-true _ (c .if2 .taken))
 
 taps-good : (c : tie.Else2) → goodTaps (c .before .before .before .before .before .args .self .taps) ≡ true
 taps-good c = sym (c .before .is-good-taps .ensures) ∙ not-false _ (c .if2 .left)
@@ -42,7 +44,8 @@ is-good-bits-requires c κs = search needs
 returns-3 : tie.Need-returns-3
 returns-3 c =
     let t = c .before .before in
-    at-bits (t .before .before .before .before .before .args .self) (sps-good (t .before .before)) (taps-good t) (sym (c .before .is-good-bits .ensures) ∙ not-true _ (c .if3 .taken))
+    at-bits (t .before .before .before .before .before .args .self) (sps-good (t .before .before)) (taps-good t) (sym (c .before .is-good-bits .ensures)
+    ∙ not-true _ (c .if3 .taken))
 
 three : (c : tie.Else3) → Three (c .before .before .before .before .before .before .before .args .self)
 three c =

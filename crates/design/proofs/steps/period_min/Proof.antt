@@ -19,7 +19,8 @@ unfolding periodMin ofBits
 returns c =
     let sps = c .before .before .args .sps in
     c .cut-u32 .ensures
-    ∙ ap (λ (y : Float). toUnsigned 32 (mul binary64 y (twoTo 24))) (c .before .at-least-min .ensures ∙ ap (λ (y : Float). atLeastMin (mul binary64 sps y)) is-0·98)
+    ∙ ap (λ (y : Float). toUnsigned 32 (mul binary64 y (twoTo 24))) (c .before .at-least-min .ensures
+    ∙ ap (λ (y : Float). atLeastMin (mul binary64 sps y)) is-0·98)
 
 pub period-min-spec : {M : Type 1} → statement M
 period-min-spec = tie.close (tie.spec at-least-min-requires cut-u32-requires returns)

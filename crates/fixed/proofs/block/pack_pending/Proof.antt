@@ -19,7 +19,11 @@ abbrev μ-loop : tie.MeasureT-loop
 μ-loop e err packed₀ n₀ packed n = 24 - n
 
 loop-holds : tie.Need-loop-holds Inv-loop μ-loop
-loop-holds c = (omega arith, filled-none noPending (λ m. record { e = getD (c .args .e .now) m (pos 0); err = getD (c .args .err .now) m (pos 0) }) (c .args .pending))
+loop-holds c = (
+  omega arith,
+  filled-none noPending (λ m. record { e = getD (c .args .e .now) m (pos 0); err = getD (c .args .err .now) m (pos 0) })
+      (c .args .pending),
+)
 
 mul-t7 : tie.Need-mul-t7 Inv-loop μ-loop
 mul-t7 c = search needs

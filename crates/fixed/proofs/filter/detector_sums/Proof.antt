@@ -1,5 +1,5 @@
--- `fixed::filter::detector_sums` meets its contract: after n taps the sums of both rows are those of n taps (RowSums.antt), and within bounds that 64 of them set.
--- The rows are as long as the line's part, so one count serves both, and so do the line's own sums.
+-- `fixed::filter::detector_sums` meets its contract: after n taps the sums of both rows are those of n taps (RowSums.antt), and within bounds that 64 of them
+-- set. The rows are as long as the line's part, so one count serves both, and so do the line's own sums.
 use Prim.Native.Nat.{ℕ, _-_, _^_, _≤_, _<_}
 use mathlib.Core.Path.{_≡_, sym, _∙_, subst}
 use mathlib.Core.List.{[], _∷_}
@@ -72,11 +72,13 @@ module _ (b : tie.At-loop Inv-loop μ-loop) where
 
   h-small : (b .loop .a .i ≤ 2 ^ 57) × ((b .loop .a .q ≤ 2 ^ 57) × (natAbs (b .loop .a .coefficients) ≤ 131071))
   h-small =
-      taken-small (start .args .h .now) (start .args .i .now) (start .args .q .now) (b .loop .n) (b .loop .a .i) (b .loop .a .q) (b .loop .a .coefficients) few (start .pre .0 .light) (b .loop .inv .1 .0)
+      taken-small (start .args .h .now) (start .args .i .now) (start .args .q .now) (b .loop .n) (b .loop .a .i) (b .loop .a .q)
+      (b .loop .a .coefficients) few (start .pre .0 .light) (b .loop .inv .1 .0)
 
   g-small : (b .loop .b .i ≤ 2 ^ 57) × ((b .loop .b .q ≤ 2 ^ 57) × (natAbs (b .loop .b .coefficients) ≤ 131071))
   g-small =
-      taken-small (start .args .g .now) (start .args .i .now) (start .args .q .now) (b .loop .n) (b .loop .b .i) (b .loop .b .q) (b .loop .b .coefficients) few (start .pre .1 .light) (b .loop .inv .1 .1 .0)
+      taken-small (start .args .g .now) (start .args .i .now) (start .args .q .now) (b .loop .n) (b .loop .b .i) (b .loop .b .q)
+      (b .loop .b .coefficients) few (start .pre .1 .light) (b .loop .inv .1 .1 .0)
 
   line-small : (b .loop .line .i ≤ 2 ^ 38) × (b .loop .line .q ≤ 2 ^ 38)
   line-small = level-small (start .args .i .now) (start .args .q .now) (b .loop .n) (b .loop .line .i) (b .loop .line .q) few (b .loop .inv .1 .1 .1)
@@ -133,14 +135,17 @@ loop-again c =
     let l = b .loop in
     let x = c .before .before .before .before .before .before .shared-slice-known3 .given (l .n) .fits in
     let y = c .before .before .before .before .before .shared-slice-known4 .given (l .n) .fits in
-    let h = simp (held w32 (getD (a .args .h .now) (l .n) (pos 0)) (c .before .before .before .before .with-tap-arg .given)) at (c .before .before .before .with-tap .ensures) in
+    let h = simp (held w32 (getD (a .args .h .now) (l .n) (pos 0)) (c .before .before .before .before .with-tap-arg .given)) at
+    (c .before .before .before .with-tap .ensures) in
     let g = simp (held w32 (getD (a .args .g .now) (l .n) (pos 0)) (c .before .before .with-tap-arg2 .given)) at (c .before .with-tap2 .ensures) in
     rw (h, g, c .with-pair .ensures) (
       omega arith,
       (
-        taken-more (a .args .h .now) (a .args .i .now) (a .args .q .now) (l .n) (l .a .i) (l .a .q) (l .a .coefficients) (inside t) (h-each t) x y (l .inv .1 .0),
+        taken-more (a .args .h .now) (a .args .i .now) (a .args .q .now) (l .n) (l .a .i) (l .a .q) (l .a .coefficients) (inside t) (h-each t) x y
+            (l .inv .1 .0),
         (
-          taken-more (a .args .g .now) (a .args .i .now) (a .args .q .now) (l .n) (l .b .i) (l .b .q) (l .b .coefficients) (inside-g t) (g-each t) x y (l .inv .1 .1 .0),
+          taken-more (a .args .g .now) (a .args .i .now) (a .args .q .now) (l .n) (l .b .i) (l .b .q) (l .b .coefficients) (inside-g t) (g-each t) x y
+              (l .inv .1 .1 .0),
           level-more (a .args .i .now) (a .args .q .now) (l .n) (l .line .i) (l .line .q) x y (l .inv .1 .1 .1),
         ),
       ),
@@ -164,9 +169,11 @@ returns c =
     let u = subst (λ (n : ℕ). Level (a .args .i .now) (a .args .q .now) n (l .line .i) (l .line .q)) e (l .inv .1 .1 .1) in
     let v = subst (λ (n : ℕ). Level (a .args .i .now) (a .args .q .now) n (l .line .i) (l .line .q)) f (l .inv .1 .1 .1) in
     let x : c .before .lowered .result ≡ sumsOver (a .args .h .now) (a .args .i .now) (a .args .q .now) =
-    c .before .lowered .ensures ∙ taken-all (a .args .h .now) (a .args .i .now) (a .args .q .now) (l .a .i) (l .a .q) (l .a .coefficients) (l .line .i) (l .line .q) h u in
+    c .before .lowered .ensures ∙ taken-all (a .args .h .now) (a .args .i .now) (a .args .q .now) (l .a .i) (l .a .q) (l .a .coefficients) (l .line .i)
+    (l .line .q) h u in
     let y : c .lowered2 .result ≡ sumsOver (a .args .g .now) (a .args .i .now) (a .args .q .now) =
-    c .lowered2 .ensures ∙ taken-all (a .args .g .now) (a .args .i .now) (a .args .q .now) (l .b .i) (l .b .q) (l .b .coefficients) (l .line .i) (l .line .q) g v in
+    c .lowered2 .ensures ∙ taken-all (a .args .g .now) (a .args .i .now) (a .args .q .now) (l .b .i) (l .b .q) (l .b .coefficients) (l .line .i)
+    (l .line .q) g v in
     λ t. x t ∷ y t ∷ []
 
 pub detector-sums-spec : {M : Type 1} → statement M

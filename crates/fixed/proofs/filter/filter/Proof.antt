@@ -1,4 +1,5 @@
--- `fixed::filter::filter` meets its contract: the parts that it hands on are the rows' middles, and a detector row's sums over its middle are those over the row.
+-- `fixed::filter::filter` meets its contract: the parts that it hands on are the rows' middles, and a detector row's sums over its middle are those over the
+-- row.
 use Prim.Native.Nat.{ℕ, _+_, _-_, _/_, min}
 use mathlib.Core.Path.{_≡_, sym, ap, _∙_}
 use mathlib.Core.List.{List, [], _∷_}
@@ -14,7 +15,8 @@ use Rattle.fixed.proofs.filter.filter.Tie as tie
 
 -- ---- the part that the code hands on is the middle
 
-module _ (row : List ℤ) (i q : List ℕ) (a b taps : ℕ) (ea : a ≡ (taps - 8) / 2) (eb : b ≡ a + min 8 taps) (e : length row ≡ taps) (d : DetectorRow row i q) where
+module _ (row : List ℤ) (i q : List ℕ) (a b taps : ℕ) (ea : a ≡ (taps - 8) / 2) (eb : b ≡ a + min 8 taps) (e : length row ≡ taps)
+    (d : DetectorRow row i q) where
   starts : a ≡ low row
   starts = ea ∙ ap (λ (n : ℕ). (n - 8) / 2) (sym e)
 
@@ -83,8 +85,10 @@ detector-sums-requires c κs =
     let b = c .before .before .before .before in
     let a = b .before .before .before in
     let f = b .detector-of in (
-      middle-row (a .args .h .now) (a .args .i .now) (a .args .q .now) (f .result .low) (f .result .high) (length (a .args .k .now)) (f .ensures .0) (f .ensures .1) (omega arith) (a .pre .0),
-      middle-row (a .args .g .now) (a .args .i .now) (a .args .q .now) (f .result .low) (f .result .high) (length (a .args .k .now)) (f .ensures .0) (f .ensures .1) (omega arith) (a .pre .1 .0),
+      middle-row (a .args .h .now) (a .args .i .now) (a .args .q .now) (f .result .low) (f .result .high) (length (a .args .k .now)) (f .ensures .0)
+          (f .ensures .1) (omega arith) (a .pre .0),
+      middle-row (a .args .g .now) (a .args .i .now) (a .args .q .now) (f .result .low) (f .result .high) (length (a .args .k .now)) (f .ensures .0)
+          (f .ensures .1) (omega arith) (a .pre .1 .0),
     )
 
 array-copy-out-a : tie.Need-array-copy-out-a
@@ -102,11 +106,15 @@ returns c =
     let b = d .before .before .before .before .before in
     let a = b .before .before .before in
     let f = b .detector-of in
-    let h = middle-sums (a .args .h .now) (a .args .i .now) (a .args .q .now) (f .result .low) (f .result .high) (length (a .args .k .now)) (f .ensures .0) (f .ensures .1) (omega arith) (a .pre .0) in
-    let g = middle-sums (a .args .g .now) (a .args .i .now) (a .args .q .now) (f .result .low) (f .result .high) (length (a .args .k .now)) (f .ensures .0) (f .ensures .1) (omega arith) (a .pre .1 .0) in
+    let h = middle-sums (a .args .h .now) (a .args .i .now) (a .args .q .now) (f .result .low) (f .result .high) (length (a .args .k .now)) (f .ensures .0)
+    (f .ensures .1) (omega arith) (a .pre .0) in
+    let g = middle-sums (a .args .g .now) (a .args .i .now) (a .args .q .now) (f .result .low) (f .result .high) (length (a .args .k .now)) (f .ensures .0)
+    (f .ensures .1) (omega arith) (a .pre .1 .0) in
     let at : (n : ℕ) → Sums = λ n. getD (d .detector-sums .result) n (record { i = pos 0; q = pos 0 }) in
-    let x : at 0 ≡ sumsOver (a .args .h .now) (a .args .i .now) (a .args .q .now) = ap (λ (l : List Sums). getD l 0 (record { i = pos 0; q = pos 0 })) (d .detector-sums .ensures) ∙ h in
-    let y : at 1 ≡ sumsOver (a .args .g .now) (a .args .i .now) (a .args .q .now) = ap (λ (l : List Sums). getD l 1 (record { i = pos 0; q = pos 0 })) (d .detector-sums .ensures) ∙ g in
+    let x : at 0 ≡ sumsOver (a .args .h .now) (a .args .i .now) (a .args .q .now) =
+    ap (λ (l : List Sums). getD l 0 (record { i = pos 0; q = pos 0 })) (d .detector-sums .ensures) ∙ h in
+    let y : at 1 ≡ sumsOver (a .args .g .now) (a .args .i .now) (a .args .q .now) =
+    ap (λ (l : List Sums). getD l 1 (record { i = pos 0; q = pos 0 })) (d .detector-sums .ensures) ∙ g in
     let z : c .output-sums .result ≡ sumsOver (a .args .k .now) (a .args .i .now) (a .args .q .now) = c .output-sums .ensures in
     λ t. x t ∷ y t ∷ z t ∷ []
 

@@ -47,11 +47,13 @@ module _ (u v : ℕ) (hu : u ≤ 2 ^ 57) (hv : v ≤ 2 ^ 38) where
   rest-fits c h = sfit {z = level -ℤ c *ℤ pos 2147483648} (omega (arith, abs-minus level (c *ℤ pos 2147483648), level-small, raised-small c h))
 
   rest-is : (c : ℤ) → natAbs c ≤ 131071
-      → toZ w64 (ofZ w64 (toZ w64 u -ℤ toZ w64 (v * 131072))) -ℤ toZ w64 (ofZ w64 (toZ w64 (ofZ w64 (toZ w32 (ofZ w32 c))) *ℤ pos 2147483648)) ≡ level -ℤ c *ℤ pos 2147483648
+      → toZ w64 (ofZ w64 (toZ w64 u -ℤ toZ w64 (v * 131072))) -ℤ toZ w64
+      (ofZ w64 (toZ w64 (ofZ w64 (toZ w32 (ofZ w32 c))) *ℤ pos 2147483648)) ≡ level -ℤ c *ℤ pos 2147483648
   rest-is c h = rw (level-back, raised-is c h)
 
   all : (c : ℤ) → natAbs c ≤ 131071
-      → toZ w64 (ofZ w64 (toZ w64 (ofZ w64 (toZ w64 u -ℤ toZ w64 (v * 131072))) -ℤ toZ w64 (ofZ w64 (toZ w64 (ofZ w64 (toZ w32 (ofZ w32 c))) *ℤ pos 2147483648)))) ≡ level -ℤ c *ℤ pos 2147483648
+      → toZ w64 (ofZ w64 (toZ w64 (ofZ w64 (toZ w64 u -ℤ toZ w64 (v * 131072))) -ℤ toZ w64
+      (ofZ w64 (toZ w64 (ofZ w64 (toZ w32 (ofZ w32 c))) *ℤ pos 2147483648)))) ≡ level -ℤ c *ℤ pos 2147483648
   all c h = rw (rest-is c h) (toZ-ofZ (rest-fits c h))
 
 -- ---- the code
@@ -85,7 +87,8 @@ sub-t8 c =
     let a = c .before .before .before .before in
     let s = a .args .s in
     let h = a .pre .0 .1 .1 in
-    rw (rest-is (s .i) (a .args .line .i) (a .pre .0 .0) (a .pre .1 .0) (s .coefficients) h) (rest-fits (s .i) (a .args .line .i) (a .pre .0 .0) (a .pre .1 .0) (s .coefficients) h)
+    rw (rest-is (s .i) (a .args .line .i) (a .pre .0 .0) (a .pre .1 .0) (s .coefficients) h)
+    (rest-fits (s .i) (a .args .line .i) (a .pre .0 .0) (a .pre .1 .0) (s .coefficients) h)
 
 cast-t9 : tie.Need-cast-t9
 cast-t9 c = search needs
@@ -104,7 +107,8 @@ sub-t13 c =
     let a = c .before .before .before .before .before .before in
     let s = a .args .s in
     let h = a .pre .0 .1 .1 in
-    rw (rest-is (s .q) (a .args .line .q) (a .pre .0 .1 .0) (a .pre .1 .1) (s .coefficients) h) (rest-fits (s .q) (a .args .line .q) (a .pre .0 .1 .0) (a .pre .1 .1) (s .coefficients) h)
+    rw (rest-is (s .q) (a .args .line .q) (a .pre .0 .1 .0) (a .pre .1 .1) (s .coefficients) h)
+    (rest-fits (s .q) (a .args .line .q) (a .pre .0 .1 .0) (a .pre .1 .1) (s .coefficients) h)
 
 returns : tie.Need-returns
 returns c =

@@ -61,7 +61,8 @@ module _ (b : tie.At-loop Inv-loop μ-loop) where
   sums-small : (b .loop .s .i ≤ 2 ^ 57) × ((b .loop .s .q ≤ 2 ^ 57) × (natAbs (b .loop .s .coefficients) ≤ 131071))
   sums-small =
       let a = b .before .before .before .before .before in
-      taken-small row (a .args .i .now) (a .args .q .now) (b .loop .n) (b .loop .s .i) (b .loop .s .q) (b .loop .s .coefficients) few (a .pre .light) (b .loop .inv .1 .0)
+      taken-small row (a .args .i .now) (a .args .q .now) (b .loop .n) (b .loop .s .i) (b .loop .s .q) (b .loop .s .coefficients) few (a .pre .light)
+      (b .loop .inv .1 .0)
 
   line-small : (b .loop .line .i ≤ 2 ^ 38) × (b .loop .line .q ≤ 2 ^ 38)
   line-small =
@@ -80,7 +81,8 @@ with-tap-requires c κs =
     let t = c .before .before .before in
     let b = t .before in
     let p = sums-small b in
-    let small : natAbs (toZ w32 (ofZ w32 (getD (row b) (b .loop .n) (pos 0)))) ≤ 131071 = rw (held w32 (getD (row b) (b .loop .n) (pos 0)) (c .with-tap-arg .given)) (each b (inside t)) in
+    let small : natAbs (toZ w32 (ofZ w32 (getD (row b) (b .loop .n) (pos 0)))) ≤ 131071 =
+    rw (held w32 (getD (row b) (b .loop .n) (pos 0)) (c .with-tap-arg .given)) (each b (inside t)) in
     ((small, p .1 .1), (omega (arith, p .0), omega (arith, p .1 .0)))
 
 with-pair-requires : tie.Need-with-pair-requires Inv-loop μ-loop
@@ -104,7 +106,8 @@ loop-again c =
     rw (told, c .with-pair .ensures) (
       omega arith,
       (
-        taken-more (row b) (a .args .i .now) (a .args .q .now) (l .n) (l .s .i) (l .s .q) (l .s .coefficients) (inside t) (each b (inside t)) x y (l .inv .1 .0),
+        taken-more (row b) (a .args .i .now) (a .args .q .now) (l .n) (l .s .i) (l .s .q) (l .s .coefficients) (inside t) (each b (inside t)) x y
+            (l .inv .1 .0),
         level-more (a .args .i .now) (a .args .q .now) (l .n) (l .line .i) (l .line .q) x y (l .inv .1 .1),
       ),
     )

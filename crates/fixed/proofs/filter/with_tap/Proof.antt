@@ -1,4 +1,5 @@
--- `fixed::filter::with_tap` meets its contract: a coefficient of 18 bits, raised, is a number from 1 to 262143, and its product with one of 32 bits stays below 2^51.
+-- `fixed::filter::with_tap` meets its contract: a coefficient of 18 bits, raised, is a number from 1 to 262143, and its product with one of 32 bits stays
+-- below 2^51.
 use Prim.Native.Nat.{ℕ, _+_, _*_, _^_, _≤_}
 use mathlib.Core.Path.{_≡_, ap}
 use native.Mathlib.Nat.{mul-le-mul}
@@ -76,7 +77,8 @@ add-t13 c = let a = c .before .before in sum-fits (a .args .c) (a .pre .0 .0) (a
 add-t6 : tie.Need-add-t6
 add-t6 c =
     let a = c .before .before .before .before in
-    rw (coefficients-is (a .args .s .coefficients) (a .args .c) (a .pre .0 .1) (a .pre .0 .0)) (coefficients-fit (a .args .s .coefficients) (a .args .c) (a .pre .0 .1) (a .pre .0 .0))
+    rw (coefficients-is (a .args .s .coefficients) (a .args .c) (a .pre .0 .1) (a .pre .0 .0))
+    (coefficients-fit (a .args .s .coefficients) (a .args .c) (a .pre .0 .1) (a .pre .0 .0))
 
 returns : tie.Need-returns
 returns c =
@@ -84,7 +86,8 @@ returns c =
     let s = a .args .s in
     let k = raised-abs (a .args .c) (a .pre .0 .0) in
     let w : toZ w32 (ofZ w32 (toZ w32 (ofZ w32 (s .coefficients)) +ℤ toZ w32 (ofZ w32 (a .args .c)))) ≡ s .coefficients +ℤ a .args .c =
-    rw (coefficients-is (s .coefficients) (a .args .c) (a .pre .0 .1) (a .pre .0 .0)) (toZ-ofZ (coefficients-fit (s .coefficients) (a .args .c) (a .pre .0 .1) (a .pre .0 .0))) in
+    rw (coefficients-is (s .coefficients) (a .args .c) (a .pre .0 .1) (a .pre .0 .0))
+    (toZ-ofZ (coefficients-fit (s .coefficients) (a .args .c) (a .pre .0 .1) (a .pre .0 .0))) in
     λ t. record { i = s .i + k t * a .args .x; q = s .q + k t * a .args .y; coefficients = w t }
 
 pub with-tap-spec : {M : Type 1} → statement M

@@ -26,7 +26,8 @@ use Rattle.fixed.specs.Sample.{joined, withoutSymbol, falls}
 use Rattle.fixed.specs.Inside.{lowered, Kept, kept, Stands, Ready, GoesOn}
 use Rattle.state.specs.Check.{outline}
 use Rattle.state.proofs.Going.{Going}
-use Rattle.fixed.proofs.Kept.{v-small, keptJoined, keptWithout, accepted, ready-going, head-fits, ready-joined, stands-joined, without-symbol-on, stands-without, next-with, next-without, made-with, made-without}
+use Rattle.fixed.proofs.Kept.{v-small, keptJoined, keptWithout, accepted, ready-going, head-fits, ready-joined, stands-joined, without-symbol-on}
+use Rattle.fixed.proofs.Kept.{stands-without, next-with, next-without, made-with, made-without}
 use Rattle.fixed.proofs.sample.push.Statement.{statement}
 use Rattle.fixed.proofs.sample.push.Tie as tie
 
@@ -105,7 +106,8 @@ module _ (c : tie.After-struct-told5) where
 
   raised-i : lowered (first .before .raise .result) ≡ mixed (b .args .r .nco) (pair b) .i
   raised-i =
-      first .before .raise .ensures ∙ held w32 (head-at .before .mix .result .i) (first .before .before .struct-told .given .0 .1) ∙ ap (λ (m : Pair). m .i) mix-is
+      first .before .raise .ensures ∙ held w32 (head-at .before .mix .result .i) (first .before .before .struct-told .given .0 .1)
+      ∙ ap (λ (m : Pair). m .i) mix-is
 
   raised-q : lowered (second .before .raise2 .result) ≡ mixed (b .args .r .nco) (pair b) .q
   raised-q =
@@ -120,7 +122,14 @@ module _ (c : tie.After-struct-told5) where
   abbrev turned : Registers
   turned =
       let r = b .args .r in
-      record { nco = nco-at .next-nco .result; «t_acc» = in64 (r .«t_acc»); v = in64 (r .v); period = r .period; «gain_acc» = r .«gain_acc»; symbols = r .symbols }
+      record {
+        nco = nco-at .next-nco .result;
+        «t_acc» = in64 (r .«t_acc»);
+        v = in64 (r .v);
+        period = r .period;
+        «gain_acc» = r .«gain_acc»;
+        symbols = r .symbols;
+      }
 
   abbrev joinedAt : Position
   joinedAt = let w = b .args .w in record { head = head-at .next-head .result; oldest = w .oldest; waiting = w .waiting; samples = w .samples }

@@ -1,5 +1,5 @@
--- `fixed::sample::sums_at` meets its contract: the parts of the banks that go to the filter are the phase's rows of an accepted sheet, as the filter takes them.
--- Those of the line are the windows over which a row's sums are its sums over the line, newest first (Windows).
+-- `fixed::sample::sums_at` meets its contract: the parts of the banks that go to the filter are the phase's rows of an accepted sheet, as the filter takes
+-- them. Those of the line are the windows over which a row's sums are its sums over the line, newest first (Windows).
 use Prim.Native.Nat.{ℕ, _+_, _*_, _≤_}
 use mathlib.Core.Path.{_≡_, _∙_}
 use mathlib.Core.Bool.{true}
@@ -156,8 +156,10 @@ filter-requires : tie.Need-filter-requires
 filter-requires c κs =
     let s = c .before .before .before .before .before .before .before .before in
     let l = accepted s .lengths in
-    let b = accepted s .banks in
-    (detector s 0 (h s) (l .long-h) (b .rows-h) (b .outside-h), (detector s 1 (g s) (l .long-g) (b .rows-g) (b .outside-g), output s 2 (k s) (l .long-k) (b .rows-k)))
+    let b = accepted s .banks in (
+      detector s 0 (h s) (l .long-h) (b .rows-h) (b .outside-h),
+      (detector s 1 (g s) (l .long-g) (b .rows-g) (b .outside-g), output s 2 (k s) (l .long-k) (b .rows-k)),
+    )
 
 returns : tie.Need-returns
 returns c =

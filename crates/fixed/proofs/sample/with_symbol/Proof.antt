@@ -149,7 +149,8 @@ module _ (c : tie.After-after-symbol2) where
   b = at moved
 
   abbrev y : Kept
-  y = kept (b .args .i .now) (b .args .q .now) (joined .join .last .0) (joined .join .last .1 .0) (moved .after-symbol .result .registers) (c .after-symbol2 .result)
+  y = kept (b .args .i .now) (b .args .q .now) (joined .join .last .0) (joined .join .last .1 .0) (moved .after-symbol .result .registers)
+      (c .after-symbol2 .result)
 
   -- the queue with the symbol's errors
   timing-queued : joined .join .last .0 ≡ set (b .args .e .now) ((b .args .w .oldest + b .args .w .waiting) % 24) (made .make .result .e)
@@ -197,7 +198,8 @@ module _ (c : tie.After-after-symbol2) where
     sample = ap (λ (z : Symbol). z .sample) made-is ∙ sample-is (b .args .p) _ _ (b .args .w .samples) (phase b) _;
     is = symbol-is;
     state = λ f stands.
-        subst (λ (z : Kept). Stands (b .args .p .taps) z (withSymbol (sheet b) f)) kept-is (stands-with (b .pre .0) f stands (made .make .result) (symbol-is f stands));
+        subst (λ (z : Kept). Stands (b .args .p .taps) z (withSymbol (sheet b) f)) kept-is
+        (stands-with (b .pre .0) f stands (made .make .result) (symbol-is f stands));
   }
 
 returns : tie.Need-returns

@@ -34,7 +34,8 @@ past1 c f = keeps _ (sym (c .before .has-good-periods .ensures) ∙ not-false _ 
 
 returns-2 : tie.Need-returns-2
 unfolding fieldFaults
-returns-2 c = let f : First _ _ = past1 (c .before .before .before) (breaks (lit< tt) (sym (c .before .is-within .ensures) ∙ not-true _ (c .if2 .taken))) in f .is
+returns-2 c = let f : First _ _ =
+    past1 (c .before .before .before) (breaks (lit< tt) (sym (c .before .is-within .ensures) ∙ not-true _ (c .if2 .taken))) in f .is
 
 abbrev self2 : tie.Else2 → Params
 self2 c = self1 (c .before .before .before)
@@ -44,7 +45,8 @@ past2 c f = past1 (c .before .before .before) (keeps _ (sym (c .before .is-withi
 
 returns-3 : tie.Need-returns-3
 unfolding fieldFaults
-returns-3 c = let f : First _ _ = past2 (c .before .before .before) (breaks (lit< tt) (sym (c .before .is-within2 .ensures) ∙ not-true _ (c .if3 .taken))) in f .is
+returns-3 c = let f : First _ _ =
+    past2 (c .before .before .before) (breaks (lit< tt) (sym (c .before .is-within2 .ensures) ∙ not-true _ (c .if3 .taken))) in f .is
 
 abbrev self3 : tie.Else3 → Params
 self3 c = self2 (c .before .before .before)
@@ -54,7 +56,8 @@ past3 c f = past2 (c .before .before .before) (keeps _ (sym (c .before .is-withi
 
 returns-4 : tie.Need-returns-4
 unfolding fieldFaults
-returns-4 c = let f : First _ _ = past3 (c .before .before .before) (breaks (lit< tt) (sym (c .before .is-within3 .ensures) ∙ not-true _ (c .if4 .taken))) in f .is
+returns-4 c = let f : First _ _ =
+    past3 (c .before .before .before) (breaks (lit< tt) (sym (c .before .is-within3 .ensures) ∙ not-true _ (c .if4 .taken))) in f .is
 
 abbrev self4 : tie.Else4 → Params
 self4 c = self3 (c .before .before .before)
@@ -73,7 +76,8 @@ past5 : (c : tie.Else5) {r : Refusal} → Left (self5 c) 5 r → Left (self5 c) 
 past5 c f = past4 (c .before .before) (keeps _ (sym (c .before .is-within4 .ensures) ∙ not-false _ (c .if5 .left)) f)
 
 integrator : (c : tie.After-is-integrator-end) → c .is-integrator-end .result ≡ within (pos 0) (pos 4194303) (self5 (c .before .before) .«integrator_max»)
-integrator c = simp (held w32 (self5 (c .before .before) .«integrator_max») (search (c .before .struct-told .given) depth 40)) at (c .is-integrator-end .ensures)
+integrator c = simp (held w32 (self5 (c .before .before) .«integrator_max») (search (c .before .struct-told .given) depth 40)) at
+    (c .is-integrator-end .ensures)
 
 returns-6 : tie.Need-returns-6
 unfolding fieldFaults
@@ -87,7 +91,8 @@ past6 c f = past5 (c .before .before .before) (keeps _ (sym (integrator (c .befo
 
 returns-7 : tie.Need-returns-7
 unfolding fieldFaults
-returns-7 c = let f : First _ _ = past6 (c .before .before .before) (breaks (lit< tt) (sym (c .before .is-within5 .ensures) ∙ not-true _ (c .if7 .taken))) in f .is
+returns-7 c = let f : First _ _ =
+    past6 (c .before .before .before) (breaks (lit< tt) (sym (c .before .is-within5 .ensures) ∙ not-true _ (c .if7 .taken))) in f .is
 
 abbrev self7 : tie.Else7 → Params
 self7 c = self6 (c .before .before .before)
@@ -97,7 +102,8 @@ past7 c f = past6 (c .before .before .before) (keeps _ (sym (c .before .is-withi
 
 returns-8 : tie.Need-returns-8
 unfolding fieldFaults
-returns-8 c = let f : First _ _ = past7 (c .before .before .before) (breaks (lit< tt) (sym (c .before .is-within6 .ensures) ∙ not-true _ (c .if8 .taken))) in f .is
+returns-8 c = let f : First _ _ =
+    past7 (c .before .before .before) (breaks (lit< tt) (sym (c .before .is-within6 .ensures) ∙ not-true _ (c .if8 .taken))) in f .is
 
 abbrev self8 : tie.Else8 → Params
 self8 c = self7 (c .before .before .before)
@@ -107,7 +113,8 @@ past8 c f = past7 (c .before .before .before) (keeps _ (sym (c .before .is-withi
 
 returns-9 : tie.Need-returns-9
 unfolding fieldFaults
-returns-9 c = let f : First _ _ = past8 (c .before .before .before) (breaks (lit< tt) (sym (c .before .is-within7 .ensures) ∙ not-true _ (c .if9 .taken))) in f .is
+returns-9 c = let f : First _ _ =
+    past8 (c .before .before .before) (breaks (lit< tt) (sym (c .before .is-within7 .ensures) ∙ not-true _ (c .if9 .taken))) in f .is
 
 abbrev self9 : tie.Else9 → Params
 self9 c = self8 (c .before .before .before)

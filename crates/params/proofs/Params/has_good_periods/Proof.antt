@@ -18,7 +18,11 @@ returns-3 c = simp (lt-ltb _ _ (c .before .before .before .before .if1 .left), l
 
 returns-4 : tie.Need-returns-4
 unfolding goodPeriods
-returns-4 c = simp (lt-ltb _ _ (c .before .before .before .before .before .if1 .left), le-leb _ _ (c .before .before .before .if2 .left), le-leb _ _ (c .before .if3 .left))
+returns-4 c = simp (
+  lt-ltb _ _ (c .before .before .before .before .before .if1 .left),
+  le-leb _ _ (c .before .before .before .if2 .left),
+  le-leb _ _ (c .before .if3 .left),
+)
 
 pub has-good-periods-spec : {M : Type 1} → statement M
 has-good-periods-spec = tie.close (tie.spec returns returns-2 returns-3 returns-4)

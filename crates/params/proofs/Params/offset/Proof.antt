@@ -1,4 +1,5 @@
--- `params::Params::offset` meets its contract: a sheet that is refused answers for itself, and after one that is not, the period is the only thing left to refuse.
+-- `params::Params::offset` meets its contract: a sheet that is refused answers for itself, and after one that is not, the period is the only thing left to
+-- refuse.
 use Prim.Native.Nat.{ℕ, _<_}
 use mathlib.Core.Path.{_≡_, refl, sym, ap, _∙_, subst}
 use mathlib.Core.Bool.{Bool, cond, _&&_}
@@ -34,7 +35,8 @@ sheet-refused s period {r} h e =
     let zero : answer s period r .parts ≡ pos 0 = simp (ne-eqb (r .number) 0 (λ z. omega arith)) in
     ap (λ (z : ℤ). record { refused = r; parts = z }) (sym zero) ∙ ap (answer s period) all
 
-sheet-passed : (s : Sheet) (period : ℕ) {b : Bool} → judged s ≡ nothing → inBounds s period ≡ b → answer s period (firstOf (unless b (refusal 13 []))) ≡ offsetOf s period
+sheet-passed : (s : Sheet) (period : ℕ) {b : Bool} → judged s ≡ nothing → inBounds s period ≡ b
+    → answer s period (firstOf (unless b (refusal 13 []))) ≡ offsetOf s period
 unfolding offsetOf judged
 sheet-passed s period j e =
     let none : faults s ≡ [] = first-none (faults s) (faults-numbered s) (ap (λ (r : Refusal). r .number) j) in
@@ -72,7 +74,8 @@ returns-3 : tie.Need-returns-3
 returns-3 c =
     let v = c .before .before .before in
     ap (λ (z : ℤ). record { refused = nothing; parts = z }) (held w64 (c .parts-of .result) (c .parts-of .ok) ∙ c .parts-of .ensures)
-    ∙ sheet-passed _ _ (passed (v .before .before .validate .ensures) (v .enum-told .given .1)) (sym (c .before .before .is-within .ensures) ∙ not-false _ (c .before .if1 .left))
+    ∙ sheet-passed _ _ (passed (v .before .before .validate .ensures) (v .enum-told .given .1)) (sym (c .before .before .is-within .ensures)
+    ∙ not-false _ (c .before .if1 .left))
 
 pub offset-spec : {M : Type 1} → statement M
 offset-spec =

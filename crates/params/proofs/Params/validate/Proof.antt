@@ -65,7 +65,8 @@ enum-known-in-banks c = search needs
 returns-2 : tie.Need-returns-2
 returns-2 c =
     let e = c .before .in-banks .given in
-    banks-answer _ (in-lengths (c .before .before .before .before .before)) (error-numbered (e .0 .0)) (refused (c .before .before .before .check-banks .ensures) (e .1))
+    banks-answer _ (in-lengths (c .before .before .before .before .before)) (error-numbered (e .0 .0))
+    (refused (c .before .before .before .check-banks .ensures) (e .1))
 
 enum-told-2 : tie.Need-enum-told-2
 enum-told-2 c = search needs

@@ -17,7 +17,8 @@ use Rattle.params.proofs.banks.check_banks.Tie as tie
 
 -- ---- what a bank's rows were found to be
 
-passes : (taps bank : ℕ) (cs : List ℤ) {v : Verdict} → verdictRefusal v ≡ firstOf (rowsFaults taps bank cs 0 64) → v ≡ Accepted → rowsFaults taps bank cs 0 64 ≡ []
+passes : (taps bank : ℕ) (cs : List ℤ) {v : Verdict} → verdictRefusal v ≡ firstOf (rowsFaults taps bank cs 0 64) → v ≡ Accepted
+    → rowsFaults taps bank cs 0 64 ≡ []
 passes taps bank cs told is = first-none _ (rows-numbered taps bank cs 0 64) (ap (λ (r : Refusal). r .number) (sym told ∙ ap verdictRefusal is))
 
 check-rows-requires : tie.Need-check-rows-requires
@@ -52,7 +53,8 @@ unfolding bankFaults
 returns-2 c =
     let g = c .before .before .before .check-rows2 in
     let e = c .before .in-g .given in
-    let f : First _ (errorRefusal (e .0 .0)) = skip (in-h (c .before .before .before .before)) (stop (error-numbered (e .0 .0)) (refused (g .ensures .0) (e .1))) in
+    let f : First _ (errorRefusal (e .0 .0)) =
+    skip (in-h (c .before .before .before .before)) (stop (error-numbered (e .0 .0)) (refused (g .ensures .0) (e .1))) in
     f .is
 
 enum-told-2 : tie.Need-enum-told-2
@@ -94,7 +96,8 @@ past c f =
     (skip (passes (a .taps) 2 (a .k .now) (c .before .before .check-rows3 .ensures .0) (c .enum-told3 .given .1)) f))
 
 -- what the rows of h and of g were found to be outside the detector's places
-outside-h : (c : tie.After-enum-told) → c .before .before .check-rows .result .centred ≡ rowsOutside (c .before .before .before .args .taps) (c .before .before .before .args .h .now) 0 64
+outside-h : (c : tie.After-enum-told)
+    → c .before .before .check-rows .result .centred ≡ rowsOutside (c .before .before .before .args .taps) (c .before .before .before .args .h .now) 0 64
 outside-h c = c .before .before .check-rows .ensures .1 refl (ap verdictRefusal (c .enum-told .given .1))
 
 outside-g : (c : tie.After-enum-told2)

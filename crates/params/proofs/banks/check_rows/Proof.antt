@@ -1,5 +1,5 @@
--- `params::banks::check_rows` meets its contract: as long as no row was refused, none of those passed has a fault, so the first that is refused has the bank's first.
--- Row `phase` is the part from phase × taps on, and a row with a small sum has no fault (Rows, `light-row`).
+-- `params::banks::check_rows` meets its contract: as long as no row was refused, none of those passed has a fault, so the first that is refused has the
+-- bank's first. Row `phase` is the part from phase × taps on, and a row with a small sum has no fault (Rows, `light-row`).
 use Prim.Native.Nat.{ℕ, _+_, _-_, _*_, _≤_, _<_}
 use mathlib.Core.Path.{_≡_, refl, sym, ap, _∙_, subst}
 use mathlib.Core.Bool.{Bool, true, _&&_}
@@ -60,11 +60,13 @@ module _ (c : tie.After-row Inv-loop μ-loop) where
 
   part : take (c .before .before .loop .at + taps - c .before .before .loop .at) (drop (c .before .before .loop .at) cs) ≡ rowOf taps cs phase
   unfolding taps cs phase
-  part = row-part (c .before .before .before .args .taps) (c .before .before .before .args .cs .now) (c .before .before .loop .at) (c .before .before .loop .phase) (c .before .before .loop .inv .1)
+  part = row-part (c .before .before .before .args .taps) (c .before .before .before .args .cs .now) (c .before .before .loop .at)
+      (c .before .before .loop .phase) (c .before .before .loop .inv .1)
 
   long : length (rowOf taps cs phase) ≡ taps
   unfolding taps cs phase
-  long = row-long (c .before .before .before .args .taps) (c .before .before .before .args .cs .now) (c .before .before .loop .phase) (omega arith) (c .before .before .before .pre .1)
+  long = row-long (c .before .before .before .args .taps) (c .before .before .before .args .cs .now) (c .before .before .loop .phase) (omega arith)
+      (c .before .before .before .pre .1)
 
 magnitude-sum-requires : tie.Need-magnitude-sum-requires Inv-loop μ-loop
 unfolding taps cs phase

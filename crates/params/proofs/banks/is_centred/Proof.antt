@@ -1,5 +1,5 @@
--- `params::banks::is_centred` meets its contract: the part that is summed is the detector's places, and their sum is the row's just where the rest is zero (Rows, `centred`).
--- A row of eight or fewer has no other places.
+-- `params::banks::is_centred` meets its contract: the part that is summed is the detector's places, and their sum is the row's just where the rest is zero
+-- (Rows, `centred`). A row of eight or fewer has no other places.
 use Prim.Native.Nat.{_-_, min}
 use mathlib.Core.Path.{_≡_, sym}
 use native.Mathlib.Omega.{arith}

@@ -53,7 +53,8 @@ loop-less : tie.Need-loop-less Inv-loop μ-loop
 loop-less c = search needs
 
 -- one magnitude more that is small
-more : (row : List ℤ) (i sum : ℕ) → i < length row → length row ≤ 64 → natAbs (getD row i (pos 0)) ≤ 131071 → Summed row i sum → Summed row (i + 1) ((sum + natAbs (getD row i (pos 0))) % 2 ^ 32)
+more : (row : List ℤ) (i sum : ℕ) → i < length row → length row ≤ 64 → natAbs (getD row i (pos 0)) ≤ 131071 → Summed row i sum
+    → Summed row (i + 1) ((sum + natAbs (getD row i (pos 0))) % 2 ^ 32)
 more row i sum inside few m s =
     let e : i + 1 ≡ suc i = omega arith in
     let bound : sum + natAbs (getD row i (pos 0)) < 2 ^ 32 = omega (arith, s .small) in
@@ -65,10 +66,12 @@ loop-again c =
     let b = c .before .before .before .before in
     let row = b .before .args .row .now in
     let l = b .loop in
-    let one : c .before .magnitude .result ≡ natAbs (getD row (l .i) (pos 0)) = simp (held w32 (getD row (l .i) (pos 0)) (c .before .before .magnitude-arg .given)) at (c .before .magnitude .ensures) in
+    let one : c .before .magnitude .result ≡ natAbs (getD row (l .i) (pos 0)) =
+    simp (held w32 (getD row (l .i) (pos 0)) (c .before .before .magnitude-arg .given)) at (c .before .magnitude .ensures) in
     rw (c .with-magnitude .ensures, one) (
       omega arith,
-      λ e. more row (l .i) (l .s .sum) (omega arith) (b .before .pre) (leb-true (natAbs (getD row (l .i) (pos 0))) 131071 (and-right (l .s .small) (leb (natAbs (getD row (l .i) (pos 0))) 131071) e))
+      λ e. more row (l .i) (l .s .sum) (omega arith) (b .before .pre)
+          (leb-true (natAbs (getD row (l .i) (pos 0))) 131071 (and-right (l .s .small) (leb (natAbs (getD row (l .i) (pos 0))) 131071) e))
           (l .inv .1 (and-left (l .s .small) (leb (natAbs (getD row (l .i) (pos 0))) 131071) e)),
     )
 

@@ -1,5 +1,5 @@
--- `params::banks::row_error` meets its contract: as long as no coefficient was refused, none of those passed has a fault, so the first that is refused is the row's first fault.
--- Where none is, the sum is.
+-- `params::banks::row_error` meets its contract: as long as no coefficient was refused, none of those passed has a fault, so the first that is refused is the
+-- row's first fault. Where none is, the sum is.
 use Prim.Native.Nat.{suc, _+_, _-_, _≤_}
 use mathlib.Core.Path.{_≡_, refl, sym, ap, _∙_}
 use mathlib.Core.Bool.{Bool, true, false, _&&_}
@@ -44,17 +44,20 @@ read : (c : tie.After-value Inv-loop μ-loop) → toZ w32 (ofZ w32 (value c)) �
 read c = held w32 (value c) (c .value .given)
 
 -- what its two tests say of it
-low : (c : tie.After-value Inv-loop μ-loop) (t : Bool) → ltZ (toZ w32 (ofZ w32 (value c))) (negsuc 131071) ≡ t → leZ (negsuc 131071) (value c) ≡ mathlib.Core.Bool.not t
+low : (c : tie.After-value Inv-loop μ-loop) (t : Bool) → ltZ (toZ w32 (ofZ w32 (value c))) (negsuc 131071) ≡ t
+    → leZ (negsuc 131071) (value c) ≡ mathlib.Core.Bool.not t
 low c t e = not-less (value c) (negsuc 131071) t (simp (read c) at e)
 
-high : (c : tie.After-value Inv-loop μ-loop) (t : Bool) → ltZ (pos 131071) (toZ w32 (ofZ w32 (value c))) ≡ t → leZ (value c) (pos 131071) ≡ mathlib.Core.Bool.not t
+high : (c : tie.After-value Inv-loop μ-loop) (t : Bool) → ltZ (pos 131071) (toZ w32 (ofZ w32 (value c))) ≡ t
+    → leZ (value c) (pos 131071) ≡ mathlib.Core.Bool.not t
 high c t e = not-less (pos 131071) (value c) t (simp (read c) at e)
 
 returns : tie.Need-returns Inv-loop μ-loop
 returns c =
     let a = c .before .before .before .before .args in
     let l = c .before .before .before .loop in
-    let wide : within (negsuc 131071) (pos 131071) (value (c .before)) ≡ false = ap (λ (b : Bool). b && leZ (value (c .before)) (pos 131071)) (low (c .before) true (c .if1 .taken)) in
+    let wide : within (negsuc 131071) (pos 131071) (value (c .before)) ≡ false =
+    ap (λ (b : Bool). b && leZ (value (c .before)) (pos 131071)) (low (c .before) true (c .if1 .taken)) in
     simp (read (c .before)) (sym (coefficient-first (a .bank) (a .phase) (a .row .now) (l .i) (omega arith) (l .inv .1) wide))
 
 -- a value that its first test let through
@@ -87,7 +90,8 @@ returns-3 c =
     let a = c .before .before .args in
     let l = c .before .loop in
     let row = a .row .now in
-    let none : coefficientFaults (a .bank) (a .phase) row ≡ [] = ap (coefficientFaults (a .bank) (a .phase)) (sym (take-all (l .i) row (omega arith))) ∙ l .inv .1 in
+    let none : coefficientFaults (a .bank) (a .phase) row ≡ [] = ap (coefficientFaults (a .bank) (a .phase)) (sym (take-all (l .i) row (omega arith)))
+    ∙ l .inv .1 in
     rw (c .before .before .pre .0) (sym (sum-first (a .bank) (a .phase) row none (omega (arith, c .before .before .pre .0))))
 
 pub row-error-spec : {M : Type 1} → statement M

@@ -49,7 +49,8 @@ loop-again : tie.Need-loop-again Inv-loop μ-loop
 loop-again c =
     let row = c .before .before .before .before .args .row .now in
     let i = c .before .before .before .loop .i in
-    let one : c .magnitude .result ≡ natAbs (getD row i (pos 0)) = simp (held w32 (getD row i (pos 0)) (c .before .magnitude-arg .given)) at (c .magnitude .ensures) in
+    let one : c .magnitude .result ≡ natAbs (getD row i (pos 0)) =
+    simp (held w32 (getD row i (pos 0)) (c .before .magnitude-arg .given)) at (c .magnitude .ensures) in
     let e : i + 1 ≡ suc i = omega arith in
     (omega arith, rw e (omega (arith, magnitudes-suc row i (omega arith))), omega arith)
 

@@ -70,10 +70,12 @@ u8-at-requires-5 : tie.Need-u8-at-requires-5
 u8-at-requires-5 c κs = looked (c .before .before .before .before .before .before .before .before .before .before .before .before .before .before) 14 (lit< tt)
 
 u8-at-requires-6 : tie.Need-u8-at-requires-6
-u8-at-requires-6 c κs = looked (c .before .before .before .before .before .before .before .before .before .before .before .before .before .before .before) 15 (lit< tt)
+u8-at-requires-6 c κs = looked (c .before .before .before .before .before .before .before .before .before .before .before .before .before .before .before) 15
+    (lit< tt)
 
 u8-at-requires-7 : tie.Need-u8-at-requires-7
-u8-at-requires-7 c κs = looked (c .before .before .before .before .before .before .before .before .before .before .before .before .before .before .before .before) 16 (lit< tt)
+u8-at-requires-7 c κs = looked
+    (c .before .before .before .before .before .before .before .before .before .before .before .before .before .before .before .before) 16 (lit< tt)
 
 returns : tie.Need-returns
 unfolding paramsAt

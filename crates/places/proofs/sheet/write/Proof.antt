@@ -70,55 +70,84 @@ cast-sheet-9 : tie.Need-cast-sheet-9
 cast-sheet-9 c = search (widens-16, c .struct-told3 .given) depth 40
 
 slice-set-from-sheet-9 : tie.Need-slice-set-from-sheet-9
-slice-set-from-sheet-9 c = simp length-set (omega (arith, c .before .before .before .before .before .before .before .before .before .before .before .before .pre))
+slice-set-from-sheet-9 c = simp length-set
+    (omega (arith, c .before .before .before .before .before .before .before .before .before .before .before .before .pre))
 
 cast-sheet-10 : tie.Need-cast-sheet-10
 cast-sheet-10 c = places-8 _ (c .struct-known10 .given .1 .1 .1 .1 .1 .1 .1 .1 .1 .0)
 
 slice-set-from-sheet-10 : tie.Need-slice-set-from-sheet-10
-slice-set-from-sheet-10 c = simp length-set (omega (arith, c .before .before .before .before .before .before .before .before .before .before .before .before .before .pre))
+slice-set-from-sheet-10 c = simp length-set
+    (omega (arith, c .before .before .before .before .before .before .before .before .before .before .before .before .before .pre))
 
 cast-sheet-11 : tie.Need-cast-sheet-11
 cast-sheet-11 c = search (widens-32, c .struct-told4 .given) depth 40
 
 slice-set-from-sheet-11 : tie.Need-slice-set-from-sheet-11
-slice-set-from-sheet-11 c = simp length-set (omega (arith, c .before .before .before .before .before .before .before .before .before .before .before .before .before .before .before .pre))
+slice-set-from-sheet-11 c = simp length-set
+    (omega (arith, c .before .before .before .before .before .before .before .before .before .before .before .before .before .before .before .pre))
 
 cast-sheet-12 : tie.Need-cast-sheet-12
 cast-sheet-12 c = places-32 _ (c .struct-known12 .given .1 .1 .1 .1 .1 .1 .1 .1 .1 .1 .1 .0)
 
 slice-set-from-sheet-12 : tie.Need-slice-set-from-sheet-12
-slice-set-from-sheet-12 c = simp length-set (omega (arith, c .before .before .before .before .before .before .before .before .before .before .before .before .before .before .before .before .pre))
+slice-set-from-sheet-12 c = simp length-set
+    (omega (arith, c .before .before .before .before .before .before .before .before .before .before .before .before .before .before .before .before .pre))
 
 cast-sheet-13 : tie.Need-cast-sheet-13
 cast-sheet-13 c = places-32 _ (c .struct-known13 .given .1 .1 .1 .1 .1 .1 .1 .1 .1 .1 .1 .1 .0)
 
 slice-set-from-sheet-13 : tie.Need-slice-set-from-sheet-13
-slice-set-from-sheet-13 c = simp length-set (omega (arith, c .before .before .before .before .before .before .before .before .before .before .before .before .before .before .before .before .before .pre))
+slice-set-from-sheet-13 c = simp length-set
+    (omega (
+      arith,
+      c .before .before .before .before .before .before .before .before .before .before .before .before .before .before .before .before .before
+          .pre,
+    ))
 
 cast-sheet-14 : tie.Need-cast-sheet-14
 cast-sheet-14 c = places-8 _ (c .struct-known14 .given .1 .1 .1 .1 .1 .1 .1 .1 .1 .1 .1 .1 .1 .0)
 
 slice-set-from-sheet-14 : tie.Need-slice-set-from-sheet-14
-slice-set-from-sheet-14 c = simp length-set (omega (arith, c .before .before .before .before .before .before .before .before .before .before .before .before .before .before .before .before .before .before .pre))
+slice-set-from-sheet-14 c = simp length-set
+    (omega (
+      arith,
+      c .before .before .before .before .before .before .before .before .before .before .before .before .before .before .before .before .before
+          .before .pre,
+    ))
 
 cast-sheet-15 : tie.Need-cast-sheet-15
 cast-sheet-15 c = places-8 _ (c .struct-known15 .given .1 .1 .1 .1 .1 .1 .1 .1 .1 .1 .1 .1 .1 .1 .0)
 
 slice-set-from-sheet-15 : tie.Need-slice-set-from-sheet-15
-slice-set-from-sheet-15 c = simp length-set (omega (arith, c .before .before .before .before .before .before .before .before .before .before .before .before .before .before .before .before .before .before .before .pre))
+slice-set-from-sheet-15 c = simp length-set
+    (omega (
+      arith,
+      c .before .before .before .before .before .before .before .before .before .before .before .before .before .before .before .before .before
+          .before .before .pre,
+    ))
 
 cast-sheet-16 : tie.Need-cast-sheet-16
 cast-sheet-16 c = places-8 _ (c .struct-known16 .given .1 .1 .1 .1 .1 .1 .1 .1 .1 .1 .1 .1 .1 .1 .1 .0)
 
 slice-set-from-sheet-16 : tie.Need-slice-set-from-sheet-16
-slice-set-from-sheet-16 c = simp length-set (omega (arith, c .before .before .before .before .before .before .before .before .before .before .before .before .before .before .before .before .before .before .before .before .pre))
+slice-set-from-sheet-16 c = simp length-set
+    (omega (
+      arith,
+      c .before .before .before .before .before .before .before .before .before .before .before .before .before .before .before .before .before
+          .before .before .before .pre,
+    ))
 
 cast-sheet-17 : tie.Need-cast-sheet-17
 cast-sheet-17 c = places-8 _ (c .struct-known17 .given .1 .1 .1 .1 .1 .1 .1 .1 .1 .1 .1 .1 .1 .1 .1 .1 .0)
 
 slice-set-from-sheet-17 : tie.Need-slice-set-from-sheet-17
-slice-set-from-sheet-17 c = simp length-set (omega (arith, c .before .before .before .before .before .before .before .before .before .before .before .before .before .before .before .before .before .before .before .before .before .pre))
+slice-set-from-sheet-17 c = simp length-set
+    (omega (
+      arith,
+      c .before .before .before .before .before .before .before .before .before .before .before .before .before .before .before .before .before
+          .before .before .before .before .pre,
+    ))
 
 same-length : tie.Need-same-length
 same-length c = simp length-set
@@ -155,8 +184,10 @@ i32 z = toZ w64 (ofZ w64 (toZ w32 (ofZ w32 z)))
 
 -- what 17 stores leave, once the casts are read back
 stored : (p : Params) (l : List ℤ) → Typed p → 17 ≤ length l
-    → sets l 0 (u (p .taps) ∷ i32 (p .«nco_step») ∷ u (p .«period_nominal») ∷ u (p .«period_min») ∷ u (p .«period_max») ∷ u (p .«ted_shift») ∷ i16 (p .kp) ∷ u (p .«kp_shift»)
-    ∷ i16 (p .ki) ∷ u (p .«ki_shift») ∷ i32 (p .«integrator_max») ∷ u (p .«agc_init») ∷ u (p .«agc_target») ∷ u (p .«agc_shift») ∷ u (p .bits) ∷ u (p .«q_shift»)
+    → sets l 0 (u (p .taps) ∷ i32 (p .«nco_step») ∷ u (p .«period_nominal») ∷ u (p .«period_min») ∷ u (p .«period_max») ∷ u (p .«ted_shift») ∷ i16 (p .kp) ∷ u
+    (p .«kp_shift»)
+    ∷ i16 (p .ki) ∷ u (p .«ki_shift») ∷ i32 (p .«integrator_max») ∷ u (p .«agc_init») ∷ u (p .«agc_target») ∷ u (p .«agc_shift») ∷ u (p .bits) ∷ u
+    (p .«q_shift»)
     ∷ u (p .«block_log2») ∷ [])
     ≡ sheetNumbers p ++ drop 17 l
 unfolding sheetNumbers
@@ -183,7 +214,8 @@ stored p l t long =
 
 returns : tie.Need-returns
 returns c =
-    let s = c .before .before .before .before .before .before .before .before .before .before .before .before .before .before .before .before .before .before .before .before .before in
+    let s = c .before .before .before .before .before .before .before .before .before .before .before .before .before .before .before .before .before .before
+    .before .before .before in
     let known = c .struct-known17 .given in
     let after-step = known .1 .1 in
     let after-kp = after-step .1 .1 .1 .1 .1 in

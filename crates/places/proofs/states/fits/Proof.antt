@@ -28,7 +28,8 @@ unfolding stateFits
 returns-2 c =
     let s = c .before .before .before in
     let state = s .before .args .places .now in
-    rw (eq-eqb (length state) 186 (s .if1 .left)) (c .are-kinds .ensures ∙ ap (λ (kinds : List ℕ). areKinds kinds state) (c .before .before .state-kinds .ensures))
+    rw (eq-eqb (length state) 186 (s .if1 .left)) (c .are-kinds .ensures
+    ∙ ap (λ (kinds : List ℕ). areKinds kinds state) (c .before .before .state-kinds .ensures))
 
 pub fits-spec : {M : Type 1} → statement M
 fits-spec = tie.close (tie.spec returns state-kinds-requires slice-aggregate-are-kinds are-kinds-requires returns-2)

@@ -43,7 +43,8 @@ add-i32-at-2 : tie.Need-add-i32-at-2 Inv-loop μ-loop
 add-i32-at-2 c = search needs
 
 i32-at-requires-2 : tie.Need-i32-at-requires-2 Inv-loop μ-loop
-i32-at-requires-2 c κs = pair-at (now (c .before .before .before .args .state)) (c .before .before .before .pre) (139 + 2 * c .before .before .loop .n) (omega arith) (omega arith)
+i32-at-requires-2 c κs = pair-at (now (c .before .before .before .args .state)) (c .before .before .before .pre) (139 + 2 * c .before .before .loop .n)
+    (omega arith) (omega arith)
 
 mul-pending : tie.Need-mul-pending Inv-loop μ-loop
 mul-pending c = search needs
@@ -61,7 +62,8 @@ loop-again : tie.Need-loop-again Inv-loop μ-loop
 loop-again c =
     let a = c .before .i32-at in
     let b = c .i32-at2 in
-    simp (held w32 (a .result) (a .ok), held w32 (b .result) (b .ok)) (taken-next (c .before .before .before .loop .inv) (omega arith) (a .ensures) (b .ensures))
+    simp (held w32 (a .result) (a .ok), held w32 (b .result) (b .ok))
+    (taken-next (c .before .before .before .loop .inv) (omega arith) (a .ensures) (b .ensures))
 
 returns : tie.Need-returns Inv-loop μ-loop
 returns c =

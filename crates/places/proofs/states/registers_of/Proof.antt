@@ -32,7 +32,8 @@ unfolding stateOf
 returns c = λ i.
     record {
       nco = c .before .before .before .before .before .u32-at .ensures i;
-      «t_acc» = (held w64 (c .before .before .before .before .i64-at .result) (c .before .before .before .before .i64-at .ok) ∙ c .before .before .before .before .i64-at .ensures) i;
+      «t_acc» = (held w64 (c .before .before .before .before .i64-at .result) (c .before .before .before .before .i64-at .ok)
+          ∙ c .before .before .before .before .i64-at .ensures) i;
       v = (held w64 (c .before .before .before .i64-at2 .result) (c .before .before .before .i64-at2 .ok) ∙ c .before .before .before .i64-at2 .ensures) i;
       period = c .before .before .u32-at2 .ensures i;
       «gain_acc» = c .before .u32-at3 .ensures i;

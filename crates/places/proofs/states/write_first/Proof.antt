@@ -1,5 +1,5 @@
--- `places::states::write_first` meets its contract: the casts lose nothing, since the counts are below 2^63, and ten stores from place 0 on leave the ten numbers
--- in front of what stood behind them (`lib.Seq`, `sets-eq`).
+-- `places::states::write_first` meets its contract: the casts lose nothing, since the counts are below 2^63, and ten stores from place 0 on leave the ten
+-- numbers in front of what stood behind them (`lib.Seq`, `sets-eq`).
 use Prim.Native.Nat.{_^_, _<_}
 use mathlib.Core.Path.{_≡_}
 use mathlib.Core.List.{List, [], _∷_, _++_}
@@ -80,10 +80,12 @@ same-length : tie.Need-same-length
 same-length c = simp length-set
 
 -- what ten stores leave, once the casts are read back
-stored : (f : Frontend) (l : List ℤ) → mag (f .registers .«t_acc») < 2 ^ 63 → mag (f .registers .v) < 2 ^ 63 → Fits w32 (f .registers .nco) → Fits w32 (f .registers .period)
+stored : (f : Frontend) (l : List ℤ) → mag (f .registers .«t_acc») < 2 ^ 63 → mag (f .registers .v) < 2 ^ 63 → Fits w32 (f .registers .nco)
+    → Fits w32 (f .registers .period)
     → Fits w32 (f .registers .«gain_acc») → Placed f → length l ≡ 186
     → sets l 0 (toZ w64 (f .registers .nco) ∷ toZ w64 (ofZ w64 (f .registers .«t_acc»)) ∷ toZ w64 (ofZ w64 (f .registers .v)) ∷ toZ w64 (f .registers .period)
-    ∷ toZ w64 (f .registers .«gain_acc») ∷ toZ w64 (f .registers .symbols) ∷ toZ w64 (f .head) ∷ toZ w64 (f .oldest) ∷ toZ w64 (f .waiting) ∷ toZ w64 (f .samples) ∷ [])
+    ∷ toZ w64 (f .registers .«gain_acc») ∷ toZ w64 (f .registers .symbols) ∷ toZ w64 (f .head) ∷ toZ w64 (f .oldest) ∷ toZ w64 (f .waiting) ∷ toZ w64
+    (f .samples) ∷ [])
     ≡ firstNumbers f ++ drop 10 l
 stored f l t v nco period gain placed long =
     simp (
@@ -105,7 +107,8 @@ returns c =
     let s = k .before .before .before .before in
     let told = k .before .struct-told2 .given in
     let known = c .struct-known8 .given in
-    stored (s .args .f) (s .args .state .now) (search told depth 40) (search told depth 40) (search known depth 40) (search known depth 40) (search known depth 40)
+    stored (s .args .f) (s .args .state .now) (search told depth 40) (search told depth 40) (search known depth 40) (search known depth 40)
+    (search known depth 40)
     (small s) (s .pre .0)
 
 pub write-first-spec : {M : Type 1} → statement M

@@ -1,5 +1,5 @@
--- `registers::Registers::after_symbol` meets its contract: its test is the definition's, and what it answers is what `found` and `left` say, one after the other.
--- The test bounds time, integrator and count, and the errors that are due move neither time nor count.
+-- `registers::Registers::after_symbol` meets its contract: its test is the definition's, and what it answers is what `found` and `left` say, one after the
+-- other. The test bounds time, integrator and count, and the errors that are due move neither time nor count.
 use Prim.Native.Nat.{_≤_, _<_}
 use mathlib.Core.Path.{_≡_, refl, sym, ap, _∙_}
 use mathlib.Core.Bool.{Bool, true, false, _&&_}

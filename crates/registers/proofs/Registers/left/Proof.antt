@@ -41,10 +41,12 @@ cast-t2 : tie.Need-cast-t2
 cast-t2 c = search needs
 
 add-t3 : tie.Need-add-t3
-add-t3 c = let s = c .before .before .before in sum-fits (s .args .self .«t_acc») (s .args .self .period) (s .pre .0) (c .before .struct-known2 .given .1 .1 .1 .0)
+add-t3 c = let s = c .before .before .before in sum-fits (s .args .self .«t_acc») (s .args .self .period) (s .pre .0)
+    (c .before .struct-known2 .given .1 .1 .1 .0)
 
 sub-t4 : tie.Need-sub-t4
-sub-t4 c = let s = c .before .before .before in rest-fits (s .args .self .«t_acc») (s .args .self .period) (s .pre .0) (c .before .struct-known2 .given .1 .1 .1 .0)
+sub-t4 c = let s = c .before .before .before in rest-fits (s .args .self .«t_acc») (s .args .self .period) (s .pre .0)
+    (c .before .struct-known2 .given .1 .1 .1 .0)
 
 add-t5 : tie.Need-add-t5
 add-t5 c = search needs

@@ -33,7 +33,8 @@ next-v-requires c κs = search needs
 moved : (c : tie.After-next-v) → let a = c .before .before .args in in64 (c .next-v .result) ≡ nextV (a .p) (a .r .v) (a .e)
 moved c =
     let s = c .before .before in
-    let told : c .next-v .result ≡ _ = simp (held w64 (s .args .r .v) (search (c .before .struct-told .given) depth 40), toZ-ofZ (s .fits .e)) at (c .next-v .ensures) in
+    let told : c .next-v .result ≡ _ =
+    simp (held w64 (s .args .r .v) (search (c .before .struct-told .given) depth 40), toZ-ofZ (s .fits .e)) at (c .next-v .ensures) in
     held w64 (c .next-v .result) (c .next-v .ok) ∙ told
 
 next-period-requires : tie.Need-next-period-requires

@@ -1,5 +1,5 @@
--- `registers::correct::next_period` meets its contract: an unsigned number of 32 bits, an integrator of at most 2^61 and an error of at most 2^46 add up within 64 bits.
--- A clamp between two unsigned numbers of 32 bits is one, so the cast loses nothing.
+-- `registers::correct::next_period` meets its contract: an unsigned number of 32 bits, an integrator of at most 2^61 and an error of at most 2^46 add up
+-- within 64 bits. A clamp between two unsigned numbers of 32 bits is one, so the cast loses nothing.
 use Prim.Native.Nat.{_^_, _<_}
 use mathlib.Core.Path.{_≡_, ap}
 use native.Mathlib.Omega.{arith}

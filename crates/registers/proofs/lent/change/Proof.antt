@@ -1,5 +1,5 @@
--- `registers::lent::change` meets its contract: a walk of its MIR, by hand. The borrow is opened and the struct copied; `after_symbol` is called, of which only its contract is known;
--- the registers that it answers are stored where the struct lies, and the borrow is closed at them.
+-- `registers::lent::change` meets its contract: a walk of its MIR, by hand. The borrow is opened and the struct copied; `after_symbol` is called, of which
+-- only its contract is known; the registers that it answers are stored where the struct lies, and the borrow is closed at them.
 use mathlib.Core.Path.{_≡_, refl, ap}
 use mathlib.Core.Bool.{Bool}
 use Prim.Native.Nat.{ℕ}
@@ -16,8 +16,10 @@ use prog.Wp.{Heap, Calls, Loops, WpFn, Tables}
 use ghost.Atoms.{Atoms, sem}
 use contract.Monad.{Fun, fact}
 use contract.Running.{givenOf, tables, tablesOf}
-use types.Kit.{Given, ‵, raw, some, later, ⋆, _⊛_, _$_, _∵_, !, qed, by, move, keep, drop, use1, split, join, pick, rewrite, fsplit, fsplit3, fjoin, fjoin3, feqI, suffices, frame, await, done}
-use types.Run.{look, look-raw, store-raw, init, forget, stop, hop, fld, from, load, of-opd, and-then, no-more, assigns, land, returns, enter, alloc1, alloc0, params1, pass1, pass0, free1, free0}
+use types.Kit.{Given, ‵, raw, some, later, ⋆, _⊛_, _$_, _∵_, !, qed, by, move, keep, drop, use1, split, join, pick, rewrite, fsplit, fsplit3, fjoin, fjoin3}
+use types.Kit.{feqI, suffices, frame, await, done}
+use types.Run.{look, look-raw, store-raw, init, forget, stop, hop, fld, from, load, of-opd, and-then, no-more, assigns, land, returns, enter, alloc1, alloc0}
+use types.Run.{params1, pass1, pass0, free1, free0}
 use types.Part.{whole, sub, look-in}
 use types.SemTy.{Body}
 use sound.WpLaws.{FmC, fmOf, WpFn-mono}
@@ -96,7 +98,8 @@ module _ {M : Type 1} (𝓤 : URA M) (H : Heap 𝓤) (A : Atoms 𝓤) (W : Given
   goes-after : Is R.the-row h (R′.lowered h ∷ []) → ent 𝓤 (sem 𝓤 H A ftrue) (After 𝓤 H A at-mem run .pre to-after)
   goes-after h-is =
       qed W (‵ ftrue ∷ []) ∵ nothing ! $ owned ! D.the-row (Is D.the-row) (LL.makes D.the-type D′.the-plain 𝓤 H A) w _ w-is $ fjoin ! $
-      owned ! bool (Is bool) (bool-makes 𝓤 H A W) due _ refl $ fjoin ! $ owned ! P.the-row (Is P.the-row) (LL.makes P.the-type P′.the-plain 𝓤 H A) p _ p-is $ fjoin ! $
+      owned ! bool (Is bool) (bool-makes 𝓤 H A W) due _ refl $ fjoin ! $ owned ! P.the-row (Is P.the-row)
+      (LL.makes P.the-type P′.the-plain 𝓤 H A) p _ p-is $ fjoin ! $
       owned ! R.the-row (Is R.the-row) (LL.makes R.the-type R′.the-plain 𝓤 H A) h _ h-is $ fjoin ! $ move ! (1 ∷ 0 ∷ []) $ join ! $ frame ! $ done !
 
   after-of : (s : AfterSymbol) → ent 𝓤 (ensured 𝓤 H A after.ended (after.clauses 𝓤 H A at-mem run) tt to tt s) (fact 𝓤 (s ≡ afterSymbol p h due w))
@@ -118,11 +121,13 @@ module _ {M : Type 1} (𝓤 : URA M) (H : Heap 𝓤) (A : Atoms 𝓤) (W : Given
       owned ! bool (Is bool) (bool-makes 𝓤 H A W) (s .made) _ refl $ move ! (1 ∷ 0 ∷ []) $ done !
 
   module _ (C : Calls 𝓤 H) (Λ : Loops 𝓤 H) (fm : FmC 𝓤 H (W .laws) C) (known : Triple 𝓤 (C #after-symbol) (After 𝓤 H A at-mem run)) where
-    walk : ent 𝓤 (onEntry 𝓤 H A change.signature (κ, tt) (q, tt) a vals) (WpFn 𝓤 H C Λ code.function (vptr b o ∷ P′.lowered p ∷ vbool due ∷ D′.lowered w ∷ []) Post)
+    walk : ent 𝓤 (onEntry 𝓤 H A change.signature (κ, tt) (q, tt) a vals)
+        (WpFn 𝓤 H C Λ code.function (vptr b o ∷ P′.lowered p ∷ vbool due ∷ D′.lowered w ∷ []) Post)
     walk =
         qed W ((‵ (flft κ q) ⊛ ‵ ftrue) ∷ ‵ (owns (MutRef (named 0) κ R.the-row ∷ P.the-row ∷ bool ∷ D.the-row ∷ []) a vals) ∷ []) ∵
         enter ! C Λ code.function (vptr b o ∷ P′.lowered p ∷ vbool due ∷ D′.lowered w ∷ []) _ $
-        alloc1 ! (λ l₀. alloc1 ! (λ l₁. alloc1 ! (λ l₂. alloc1 ! (λ l₃. alloc1 ! (λ l₄. alloc1 ! (λ l₅. alloc1 ! (λ l₆. alloc0 ! $ params1 ! $ pass1 ! (init ! 10 refl (tt, tt)) $
+        alloc1 ! (λ l₀. alloc1 ! (λ l₁. alloc1 !
+        (λ l₂. alloc1 ! (λ l₃. alloc1 ! (λ l₄. alloc1 ! (λ l₅. alloc1 ! (λ l₆. alloc0 ! $ params1 ! $ pass1 ! (init ! 10 refl (tt, tt)) $
         pass1 ! (init ! 8 refl (LL.lawful P.the-type P′.the-laws 𝓤 H A W .typed p _ p-is .0)) $ pass1 ! (init ! 6 refl (tt, tt)) $
         pass1 ! (init ! 4 refl (LL.lawful D.the-type D′.the-laws 𝓤 H A W .typed w _ w-is .0)) $ pass0 ! $
         -- the borrow is opened
@@ -130,7 +135,8 @@ module _ {M : Type 1} (𝓤 : URA M) (H : Heap 𝓤) (A : Atoms 𝓤) (W : Given
         opens ! tt R.the-row {h = h} b o (λ vs. spelt ! R.the-row (Is R.the-row) (shows 𝓤 H A R.the-row) (LL.vals R.the-type R′.the-laws)
         (LL.tells R.the-type R′.the-laws) fullShare h vs b o $
         move ! (1 ∷ []) $ peeks ! R.the-row (Is R.the-row) (shows 𝓤 H A R.the-row) h (R′.lowered h ∷ []) (λ h-is. move ! (1 ∷ 0 ∷ []) $
-        -- [the struct's cell; what a Registers owns; the open borrow; obs; auth; true; the other parameters'; _6; …; _5; …; _4; …; _3; …; _2; …; _1; …; room for _0; …]
+        -- [the struct's cell; what a Registers owns; the open borrow; obs; auth; true; the other parameters'; _6; …; _5; …; _4; …; _3; …; _2; …; _1; …; room
+        -- for _0; …]
         assigns ! (of-opd ! (load ! (from ! (hop ! (look ! 17 refl) (stop !))) (look-raw ! 0 refl))) (from ! (stop !))
         (init ! 7 refl (LL.lawful R.the-type R′.the-laws 𝓤 H A W .typed h _ h-is .0)) $
         -- `after_symbol`
@@ -138,22 +144,28 @@ module _ {M : Type 1} (𝓤 : URA M) (H : Heap 𝓤) (A : Atoms 𝓤) (W : Given
         calls-at ! fm (After 𝓤 H A at-mem run) known to-after
         (and-then ! (load ! (from ! (stop !)) (look ! 7 refl)) (and-then ! (load ! (from ! (stop !)) (look ! 15 refl))
         (and-then ! (load ! (from ! (stop !)) (look ! 13 refl)) (and-then ! (load ! (from ! (stop !)) (look ! 11 refl)) (no-more !))))) (λ v.
-        use1 W (later (some (λ (s : AfterSymbol). (‵ ftrue ⊛ ‵ (S.the-row .own s (v ∷ []))) ⊛ raw (ensured 𝓤 H A after.ended (after.clauses 𝓤 H A at-mem run) tt to tt s))))
+        use1 W (later (some (λ (s : AfterSymbol). (‵ ftrue ⊛ ‵ (S.the-row .own s (v ∷ []))) ⊛ raw
+        (ensured 𝓤 H A after.ended (after.clauses 𝓤 H A at-mem run) tt to tt s))))
         (id⊢ 𝓤 _) $ await ! tt $ pick ! (λ s.
-        split ! $ move ! (1 ∷ []) $ use1 W (raw (fact 𝓤 (s ≡ afterSymbol p h due w))) (after-of s) $ heard ! (s ≡ afterSymbol p h due w) (λ e. split ! $ drop ! $
+        split ! $ move ! (1 ∷ []) $ use1 W (raw (fact 𝓤 (s ≡ afterSymbol p h due w))) (after-of s) $ heard ! (s ≡ afterSymbol p h due w)
+        (λ e. split ! $ drop ! $
         peeks ! S.the-row (Is S.the-row) (shows 𝓤 H A S.the-row) s (v ∷ []) (λ is. drop ! $
         land ! (from ! (stop !)) (init ! 8 refl (LL.lawful S.the-type S′.the-laws 𝓤 H A W .typed s _ is .0)) $
         rewrite ! 8 (λ (u : Val). ‵ (fat fullShare S′.mir l₅ 0 u)) (ap only (LL.tells S.the-type S′.the-laws s _ is)) refl $
-        -- [the struct's cell; what a Registers owns; the open borrow; obs; auth; the other parameters'; _6; …; _5; …; _4; …; _3; …; _2; …; _1; …; room for _0; …]
+        -- [the struct's cell; what a Registers owns; the open borrow; obs; auth; the other parameters'; _6; …; _5; …; _4; …; _3; …; _2; …; _1; …; room for
+        -- _0; …]
         assigns ! (of-opd ! (load ! (from ! (fld ! refl (stop !))) (look-in ! 8 (sub ! 0 refl (whole !))))) (from ! (hop ! (look ! 16 refl) (stop !)))
         (store-raw ! 0 refl (LL.lawful R.the-type R′.the-laws 𝓤 H A W .typed (s .registers) _ (moved s v is) .0)) $
         assigns ! (of-opd ! (load ! (from ! (fld ! refl (stop !))) (look-in ! 8 (sub ! 1 refl (whole !))))) (from ! (stop !)) (init ! 18 refl (tt, tt)) $
         -- the borrow is closed at the registers that the struct now holds
-        move ! (1 ∷ []) $ drop ! $ owned ! R.the-row (Is R.the-row) (LL.makes R.the-type R′.the-plain 𝓤 H A) (s .registers) _ (moved s v is) $ move ! (1 ∷ 0 ∷ []) $
+        move ! (1 ∷ []) $ drop ! $ owned ! R.the-row (Is R.the-row) (LL.makes R.the-type R′.the-plain 𝓤 H A) (s .registers) _ (moved s v is) $ move !
+        (1 ∷ 0 ∷ []) $
         closes ! tt R.the-row (s .registers) (R′.lowered (s .registers) ∷ []) b o $
         -- [obs; the borrow; the token; the other parameters'; _6; …]
-        returns ! (look ! 16 refl) $ forget ! 4 refl $ forget ! 6 refl $ forget ! 8 refl $ forget ! 10 refl $ forget ! 12 refl $ forget ! 14 refl $ forget ! 16 refl $
-        move ! (16 ∷ 17 ∷ []) $ free1 ! $ move ! (14 ∷ 15 ∷ []) $ free1 ! $ move ! (12 ∷ 13 ∷ []) $ free1 ! $ move ! (10 ∷ 11 ∷ []) $ free1 ! $ move ! (8 ∷ 9 ∷ []) $ free1 ! $
+        returns ! (look ! 16 refl) $ forget ! 4 refl $ forget ! 6 refl $ forget ! 8 refl $ forget ! 10 refl $ forget ! 12 refl $ forget ! 14 refl $ forget !
+        16 refl $
+        move ! (16 ∷ 17 ∷ []) $ free1 ! $ move ! (14 ∷ 15 ∷ []) $ free1 ! $ move ! (12 ∷ 13 ∷ []) $ free1 ! $ move ! (10 ∷ 11 ∷ []) $ free1 ! $ move !
+        (8 ∷ 9 ∷ []) $ free1 ! $
         move ! (6 ∷ 7 ∷ []) $ free1 ! $ move ! (4 ∷ 5 ∷ []) $ free1 ! $ free0 ! $
         keep ! (0 ∷ 1 ∷ 2 ∷ 3 ∷ []) $ by ! (exits s e))))))))))))))
 
@@ -187,4 +199,5 @@ change-spec 𝓤 H 𝓜 𝓖 𝓡 =
     entered 𝓤 H (tripleOf 𝓤 H (𝓖 .A) change.signature (change.spec 𝓤 H (𝓖 .A) (𝓜 .mem) (𝓡 .run)))
     (tables 𝓤 H 𝓜 𝓡 code.env .C) (tables 𝓤 H 𝓜 𝓡 code.env .Λ) #change code.function (code.unfolded 𝓤 H 𝓜 𝓡)
     (change-meets 𝓤 H (𝓖 .A) (givenOf 𝓤 H 𝓜 𝓖) (𝓜 .mem) (𝓡 .run) (tablesOf 𝓤 H 𝓜 (tables 𝓤 H 𝓜 𝓡 code.env))
-    (cited 𝓤 H (After 𝓤 H (𝓖 .A) (𝓜 .mem) (𝓡 .run)) 𝓜 𝓡 code.env #after-symbol after-def.routine code.calls-registers·Registers·after-symbol (after-thm.met 𝓤 H 𝓜 𝓖 𝓡)))
+    (cited 𝓤 H (After 𝓤 H (𝓖 .A) (𝓜 .mem) (𝓡 .run)) 𝓜 𝓡 code.env #after-symbol after-def.routine code.calls-registers·Registers·after-symbol
+    (after-thm.met 𝓤 H 𝓜 𝓖 𝓡)))

@@ -1,5 +1,5 @@
--- `registers::lent::changed` meets its contract: a walk of its MIR, by hand. The registers are copied to a local, which is lent to `change` for a lifetime that is made for the call;
--- once it is over they lie there again at the last value that `change`'s contract says, and are answered with its flag.
+-- `registers::lent::changed` meets its contract: a walk of its MIR, by hand. The registers are copied to a local, which is lent to `change` for a lifetime
+-- that is made for the call; once it is over they lie there again at the last value that `change`'s contract says, and are answered with its flag.
 use mathlib.Core.Path.{_≡_, refl, ap}
 use mathlib.Core.Bool.{Bool}
 use Prim.Native.Nat.{ℕ}
@@ -16,8 +16,10 @@ use prog.Wp.{Heap, Calls, Loops, WpFn, Tables}
 use ghost.Atoms.{Atoms, sem}
 use contract.Monad.{Fun, fact}
 use contract.Running.{givenOf, tables, tablesOf}
-use types.Kit.{Given, ‵, raw, some, later, _⊛_, _$_, _∵_, !, qed, by, move, keep, drop, use1, use2, use3, split, join, pick, rewrite, fsplit, fjoin, fpick, fpack, suffices, frame, await, done}
-use types.Run.{look, init, forget, stop, from, load, addr, of-opd, and-then, no-more, assigns, land, returns, enter, alloc1, alloc0, params1, pass1, pass0, free1, free0}
+use types.Kit.{Given, ‵, raw, some, later, _⊛_, _$_, _∵_, !, qed, by, move, keep, drop, use1, use2, use3, split, join, pick, rewrite, fsplit, fjoin, fpick}
+use types.Kit.{fpack, suffices, frame, await, done}
+use types.Run.{look, init, forget, stop, from, load, addr, of-opd, and-then, no-more, assigns, land, returns, enter, alloc1, alloc0, params1, pass1, pass0}
+use types.Run.{free1, free0}
 use types.Part.{agg}
 use types.SemTy.{Body}
 use types.Tokens.{lft-new, lft-end}
@@ -79,14 +81,16 @@ module _ {M : Type 1} (𝓤 : URA M) (H : Heap 𝓤) (A : Atoms 𝓤) (W : Given
       owned ! R.the-row (Is R.the-row) (LL.makes R.the-type R′.the-plain 𝓤 H A) h _ is $ move ! (1 ∷ 0 ∷ []) $ fjoin ! $
       fpack ! (List Val) (λ vs. fsep (cellAt fullShare (R.the-row .mir) vs l 0) (R.the-row .own h vs)) (R′.lowered h ∷ []) $ done !
 
-  takes : ent 𝓤 (sem 𝓤 H A (partAt R.the-row fullShare h l 0)) (sep 𝓤 (sem 𝓤 H A (fat fullShare R′.mir l 0 (R′.lowered h))) (sem 𝓤 H A (R.the-row .own h (R′.lowered h ∷ []))))
+  takes : ent 𝓤 (sem 𝓤 H A (partAt R.the-row fullShare h l 0))
+      (sep 𝓤 (sem 𝓤 H A (fat fullShare R′.mir l 0 (R′.lowered h))) (sem 𝓤 H A (R.the-row .own h (R′.lowered h ∷ []))))
   unfolding partOf
   takes =
       qed W (‵ (partAt R.the-row fullShare h l 0) ∷ []) ∵ fpick ! (λ vs. fsplit ! $
       spelt ! R.the-row (Is R.the-row) (shows 𝓤 H A R.the-row) (LL.vals R.the-type R′.the-laws) (LL.tells R.the-type R′.the-laws) fullShare h vs l 0 $
       use1 W (‵ (fat fullShare R′.mir l 0 (R′.lowered h))) (W .laws .raw-at fullShare R′.mir l 0 (R′.lowered h)) $ done !)
 
-module _ {M : Type 1} (𝓤 : URA M) (H : Heap 𝓤) (A : Atoms 𝓤) (W : Given 𝓤 H A) (at-mem : Memory → SProp 𝓤) (run : Routine → Fun 𝓤) (h : Registers) (p : Params) (due : Bool)
+module _ {M : Type 1} (𝓤 : URA M) (H : Heap 𝓤) (A : Atoms 𝓤) (W : Given 𝓤 H A) (at-mem : Memory → SProp 𝓤) (run : Routine → Fun 𝓤) (h : Registers)
+    (p : Params) (due : Bool)
     (w : Pending)
     (h-is : Is R.the-row h (R′.lowered h ∷ [])) (p-is : Is P.the-row p (P′.lowered p ∷ [])) (w-is : Is D.the-row w (D′.lowered w ∷ [])) where
   abbrev Arg : Type 0
@@ -118,12 +122,15 @@ module _ {M : Type 1} (𝓤 : URA M) (H : Heap 𝓤) (A : Atoms 𝓤) (W : Given
   abbrev to-change : ℕ → ℕ → GName → Change 𝓤 H A at-mem run .Ghost
   to-change l ν γ = (((ν ∷ [], tt), (fullShare, tt), tt, lent l γ, (vptr l 0 ∷ [], vals .1)), tt)
 
-  goes-change : (l ν : ℕ) (γ : GName) → ent 𝓤 (sep 𝓤 (A .lft (ν ∷ []) fullShare) (sem 𝓤 H A (MutRef (named 0) (ν ∷ []) R.the-row .own (lent l γ .0) (vptr l 0 ∷ []))))
+  goes-change : (l ν : ℕ) (γ : GName)
+      → ent 𝓤 (sep 𝓤 (A .lft (ν ∷ []) fullShare) (sem 𝓤 H A (MutRef (named 0) (ν ∷ []) R.the-row .own (lent l γ .0) (vptr l 0 ∷ []))))
       (Change 𝓤 H A at-mem run .pre (to-change l ν γ))
   goes-change l ν γ =
       qed W (‵ (flft (ν ∷ []) fullShare) ∷ ‵ (MutRef (named 0) (ν ∷ []) R.the-row .own (lent l γ .0) (vptr l 0 ∷ [])) ∷ []) ∵
-      nothing ! $ owned ! D.the-row (Is D.the-row) (LL.makes D.the-type D′.the-plain 𝓤 H A) w _ w-is $ fjoin ! $ owned ! bool (Is bool) (bool-makes 𝓤 H A W) due _ refl $ fjoin ! $
-      owned ! P.the-row (Is P.the-row) (LL.makes P.the-type P′.the-plain 𝓤 H A) p _ p-is $ fjoin ! $ move ! (2 ∷ 0 ∷ []) $ fjoin ! $ nothing ! $ move ! (2 ∷ 0 ∷ []) $ join ! $
+      nothing ! $ owned ! D.the-row (Is D.the-row) (LL.makes D.the-type D′.the-plain 𝓤 H A) w _ w-is $ fjoin ! $ owned ! bool (Is bool)
+      (bool-makes 𝓤 H A W) due _ refl $ fjoin ! $
+      owned ! P.the-row (Is P.the-row) (LL.makes P.the-type P′.the-plain 𝓤 H A) p _ p-is $ fjoin ! $ move ! (2 ∷ 0 ∷ []) $ fjoin ! $ nothing ! $ move !
+      (2 ∷ 0 ∷ []) $ join ! $
       join ! $ frame ! $ done !
 
   exits : (z : Registers) (m : Bool) → answer z m ≡ afterSymbol p h due w → Is R.the-row z (R′.lowered z ∷ [])
@@ -139,12 +146,14 @@ module _ {M : Type 1} (𝓤 : URA M) (H : Heap 𝓤) (A : Atoms 𝓤) (W : Given
     walk =
         qed W (‵ ftrue ∷ ‵ (owns (R.the-row ∷ P.the-row ∷ bool ∷ D.the-row ∷ []) a vals) ∷ []) ∵
         enter ! C Λ code.function (R′.lowered h ∷ P′.lowered p ∷ vbool due ∷ D′.lowered w ∷ []) _ $
-        alloc1 ! (λ l₀. alloc1 ! (λ l₁. alloc1 ! (λ l₂. alloc1 ! (λ l₃. alloc1 ! (λ l₄. alloc1 ! (λ l₅. alloc1 ! (λ l₆. alloc1 ! (λ l₇. alloc1 ! (λ l₈. alloc0 ! $ params1 ! $
+        alloc1 ! (λ l₀. alloc1 ! (λ l₁. alloc1 !
+        (λ l₂. alloc1 ! (λ l₃. alloc1 ! (λ l₄. alloc1 ! (λ l₅. alloc1 ! (λ l₆. alloc1 ! (λ l₇. alloc1 ! (λ l₈. alloc0 ! $ params1 ! $
         pass1 ! (init ! 14 refl (LL.lawful R.the-type R′.the-laws 𝓤 H A W .typed h _ h-is .0)) $
         pass1 ! (init ! 12 refl (LL.lawful P.the-type P′.the-laws 𝓤 H A W .typed p _ p-is .0)) $
         pass1 ! (init ! 10 refl (tt, tt)) $ pass1 ! (init ! 8 refl (LL.lawful D.the-type D′.the-laws 𝓤 H A W .typed w _ w-is .0)) $ pass0 ! $
         -- [_8; …; _7; …; _6; …; _5; …; _4; …; _3; …; _2; …; _1; …; room for _0; …; true; what the parameters own]
-        assigns ! (of-opd ! (load ! (from ! (stop !)) (look ! 14 refl))) (from ! (stop !)) (init ! 6 refl (LL.lawful R.the-type R′.the-laws 𝓤 H A W .typed h _ h-is .0)) $
+        assigns ! (of-opd ! (load ! (from ! (stop !)) (look ! 14 refl))) (from ! (stop !))
+        (init ! 6 refl (LL.lawful R.the-type R′.the-laws 𝓤 H A W .typed h _ h-is .0)) $
         assigns ! (addr ! (from ! (stop !))) (from ! (stop !)) (init ! 2 refl (tt, tt)) $
         -- the local _5 is lent for a lifetime ν of the call
         move ! (6 ∷ []) $ use1 W (‵ (partAt R.the-row fullShare h l₅ 0)) (lays 𝓤 H A W l₅ h h-is) $ lft-new ! tt (λ ν. move ! (1 ∷ []) $
@@ -164,17 +173,23 @@ module _ {M : Type 1} (𝓤 : URA M) (H : Heap 𝓤) (A : Atoms 𝓤) (W : Given
         peeks ! bool (Is bool) (shows 𝓤 H A bool) m (v ∷ []) (λ m-is. land ! (from ! (stop !)) (init ! 9 refl (bool-lawful 𝓤 H A W .typed m _ m-is .0)) $
         rewrite ! 9 (λ (u : Val). ‵ (fat fullShare tyBool l₆ 0 u)) (ap only m-is) refl $ drop ! $
         -- the lifetime is ended, and the registers lie in _5 again, at their last value
-        split ! $ lft-end ! tt $ move ! (0 ∷ 4 ∷ 2 ∷ []) $ use3 W (later (‵ (partAt R.the-row fullShare (zs .0) l₅ 0))) (ref-back 𝓤 H A W R.the-row (ν ∷ []) γ (zs .0) l₅ 0) $
+        split ! $ lft-end ! tt $ move ! (0 ∷ 4 ∷ 2 ∷ []) $ use3 W (later (‵ (partAt R.the-row fullShare (zs .0) l₅ 0)))
+        (ref-back 𝓤 H A W R.the-row (ν ∷ []) γ (zs .0) l₅ 0) $
         await ! tt $
-        use1 W (‵ (fat fullShare R′.mir l₅ 0 (R′.lowered (zs .0))) ⊛ ‵ (R.the-row .own (zs .0) (R′.lowered (zs .0) ∷ []))) (takes 𝓤 H A W l₅ (zs .0)) $ split ! $ move ! (1 ∷ []) $
+        use1 W (‵ (fat fullShare R′.mir l₅ 0 (R′.lowered (zs .0))) ⊛ ‵ (R.the-row .own (zs .0) (R′.lowered (zs .0) ∷ [])))
+        (takes 𝓤 H A W l₅ (zs .0)) $ split ! $ move ! (1 ∷ []) $
         peeks ! R.the-row (Is R.the-row) (shows 𝓤 H A R.the-row) (zs .0) (R′.lowered (zs .0) ∷ []) (λ is. drop ! $
         -- [_5; true; true; _8; …; _7; …; _6; …; _5's …; _4; …; _3; …; _2; …; _1; …; room for _0; …; true; what the parameters own]
-        assigns ! (of-opd ! (load ! (from ! (stop !)) (look ! 0 refl))) (from ! (stop !)) (init ! 3 refl (LL.lawful R.the-type R′.the-laws 𝓤 H A W .typed (zs .0) _ is .0)) $
-        assigns ! (agg ! (and-then ! (load ! (from ! (stop !)) (look ! 3 refl)) (and-then ! (load ! (from ! (stop !)) (look ! 7 refl)) (no-more !)))) (from ! (stop !))
+        assigns ! (of-opd ! (load ! (from ! (stop !)) (look ! 0 refl))) (from ! (stop !))
+        (init ! 3 refl (LL.lawful R.the-type R′.the-laws 𝓤 H A W .typed (zs .0) _ is .0)) $
+        assigns ! (agg ! (and-then ! (load ! (from ! (stop !)) (look ! 3 refl)) (and-then ! (load ! (from ! (stop !)) (look ! 7 refl)) (no-more !))))
+        (from ! (stop !))
         (init ! 18 refl (LL.lawful S.the-type S′.the-laws 𝓤 H A W .typed (answer (zs .0) m) _ (answered (zs .0) m is) .0)) $
-        returns ! (look ! 18 refl) $ forget ! 0 refl $ forget ! 3 refl $ forget ! 5 refl $ forget ! 7 refl $ forget ! 10 refl $ forget ! 12 refl $ forget ! 14 refl $
+        returns ! (look ! 18 refl) $ forget ! 0 refl $ forget ! 3 refl $ forget ! 5 refl $ forget ! 7 refl $ forget ! 10 refl $ forget ! 12 refl $ forget ! 14
+        refl $
         forget ! 16 refl $ forget ! 18 refl $
-        move ! (18 ∷ 19 ∷ []) $ free1 ! $ move ! (16 ∷ 17 ∷ []) $ free1 ! $ move ! (14 ∷ 15 ∷ []) $ free1 ! $ move ! (12 ∷ 13 ∷ []) $ free1 ! $ move ! (10 ∷ 11 ∷ []) $
+        move ! (18 ∷ 19 ∷ []) $ free1 ! $ move ! (16 ∷ 17 ∷ []) $ free1 ! $ move ! (14 ∷ 15 ∷ []) $ free1 ! $ move ! (12 ∷ 13 ∷ []) $ free1 ! $ move !
+        (10 ∷ 11 ∷ []) $
         free1 ! $ move ! (0 ∷ 9 ∷ []) $ free1 ! $ move ! (6 ∷ 7 ∷ []) $ free1 ! $ move ! (4 ∷ 5 ∷ []) $ free1 ! $ move ! (2 ∷ 3 ∷ []) $ free1 ! $ free0 ! $
         keep ! (2 ∷ 3 ∷ []) $ by ! (exits (zs .0) m e is))))))))))))))))))
 
@@ -184,7 +199,8 @@ module _ {M : Type 1} (𝓤 : URA M) (H : Heap 𝓤) (A : Atoms 𝓤) (W : Given
   changed-walks C Λ fm known = walked 𝓤 H A changed.ended stayed (changed.clauses 𝓤 H A mem run) (WpFn 𝓤 H C Λ code.function)
       (λ κs. (LL.vals R.the-type R′.the-laws, (LL.vals P.the-type P′.the-laws, (bool-vals, (LL.vals D.the-type D′.the-laws, tt)))))
       (λ κs. (LL.tells R.the-type R′.the-laws, (LL.tells P.the-type P′.the-laws, (bool-tells, (LL.tells D.the-type D′.the-laws, tt)))))
-      (λ κs qs bounds a g are. via 𝓤 _ (fst∗ 𝓤 _ (emp 𝓤)) (walk 𝓤 H A W mem run (a .0) (a .1 .0) (a .1 .1 .0) (a .1 .1 .1 .0) (are .0) (are .1 .0) (are .1 .1 .1 .0) C Λ fm known))
+      (λ κs qs bounds a g are. via 𝓤 _ (fst∗ 𝓤 _ (emp 𝓤))
+      (walk 𝓤 H A W mem run (a .0) (a .1 .0) (a .1 .1 .0) (a .1 .1 .1 .0) (are .0) (are .1 .0) (are .1 .1 .1 .0) C Λ fm known))
 
 changed-meets : {M : Type 1} (𝓤 : URA M) (H : Heap 𝓤) (A : Atoms 𝓤) → Given 𝓤 H A → (mem : Memory → SProp 𝓤) (run : Routine → Fun 𝓤) (𝓣 : Tables 𝓤 H)
     → Triple 𝓤 (𝓣 .C #change) (Change 𝓤 H A mem run)

@@ -71,7 +71,8 @@ returns-2 c =
     let known = c .before .before .before in
     let x = known .e2 .given in
     let row = simp (held w64 (c .before .i64-of .result) (c .before .i64-of .ok)) at (c .of-row2 .ensures) in
-    row ∙ (λ i. carriesThree (numbered (known .before .before) (x .1) i) (pos (x .0 .0)) (signedBits (x .0 .1 .0)) (c .before .i64-of .ensures i)) ∙ sym (ap ofError (x .1))
+    row ∙ (λ i. carriesThree (numbered (known .before .before) (x .1) i) (pos (x .0 .0)) (signedBits (x .0 .1 .0)) (c .before .i64-of .ensures i))
+    ∙ sym (ap ofError (x .1))
 
 returns-3 : tie.Need-returns-3
 returns-3 c =

@@ -43,7 +43,9 @@ behind long s l =
 returns : tie.Need-returns
 returns c =
     let a = c .before .before .before .args in
-    rw (c .before .least2 .ensures) (rw (c .before .before .least .ensures) (behind (a .long) (min (a .from) (length (a .room .now))) (a .room .now) ∙ ap (λ (r : List ℤ). take (a .long) r) (drop-least (a .from) (a .room .now))))
+    rw (c .before .least2 .ensures)
+    (rw (c .before .before .least .ensures) (behind (a .long) (min (a .from) (length (a .room .now))) (a .room .now)
+    ∙ ap (λ (r : List ℤ). take (a .long) r) (drop-least (a .from) (a .room .now))))
 
 pub part-spec : {M : Type 1} → statement M
 part-spec =

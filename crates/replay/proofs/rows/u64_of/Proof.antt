@@ -48,7 +48,8 @@ returns : tie.Need-returns
 returns c =
     let v = c .before .args .v in
     let m = small (c .before .fits .v) in
-    simp (v-is c, flip-down, toZ-ofZ (fits-pos (mag v) m)) (down (mag v) m ∙ ap (λ (z : ℤ). modZ z (2 ^ 64)) (sym (sym (toZ-ofZ (c .before .fits .v)) ∙ v-is c)))
+    simp (v-is c, flip-down, toZ-ofZ (fits-pos (mag v) m)) (down (mag v) m
+    ∙ ap (λ (z : ℤ). modZ z (2 ^ 64)) (sym (sym (toZ-ofZ (c .before .fits .v)) ∙ v-is c)))
 
 -- ---- not below zero
 

@@ -33,7 +33,8 @@ returns-2 : tie.Need-returns-2
 returns-2 c =
     let a = c .before .before .args in
     answer (a .self) (a .values) (a .places)
-    (keeps (refusal 10 []) (eq-eqb (a .values % 2) 0 (c .before .if1 .left)) (breaks (lit< tt) (lt-leb (20 * (a .values / 2)) (a .places) (omega (arith, c .if2 .taken)))))
+    (keeps (refusal 10 []) (eq-eqb (a .values % 2) 0 (c .before .if1 .left))
+    (breaks (lit< tt) (lt-leb (20 * (a .values / 2)) (a .places) (omega (arith, c .if2 .taken)))))
 
 sub-room : tie.Need-sub-room
 sub-room c = search needs

@@ -18,7 +18,8 @@ abbrev sheet : tie.Start → Sheet
 sheet s = sheetOf (s .args .p) (s .args .h .now) (s .args .g .now) (s .args .k .now)
 
 -- a sheet that is refused, and one that is accepted
-none-starts : (s : Sheet) {r : Refusal} {f : Frontend} → 0 < r .number → r ≡ judged s → f ≡ atRest 0 0 → _≡_ {A = Start} (record { refused = r; state = f }) (startOf s)
+none-starts : (s : Sheet) {r : Refusal} {f : Frontend} → 0 < r .number → r ≡ judged s → f ≡ atRest 0 0
+    → _≡_ {A = Start} (record { refused = r; state = f }) (startOf s)
 unfolding startOf
 none-starts s h told rest = rw (not-none told h) (λ i. record { refused = told i; state = rest i })
 

@@ -100,7 +100,8 @@ passed5 c =
     let m = most (c .before .before .before .before .before .before .before .before) in
     let high = integratorEnd (s .args .p) in
     and-next
-    (and-next (passed3 (c .before .before)) (c .before .if4 .came) (λ t. (t .0 .taken, t .3 ∙ low-test m v (t .2 .given .1 .1 .0 .1))) (λ n. (n .0 .left, n .1)))
+    (and-next (passed3 (c .before .before)) (c .before .if4 .came) (λ t. (t .0 .taken, t .3 ∙ low-test m v (t .2 .given .1 .1 .0 .1)))
+    (λ n. (n .0 .left, n .1)))
     (c .if5 .came) (λ t. (t .0 .taken, t .3 ∙ high-test m v (t .2 .given .1 .1 .0 .1))) (λ n. (n .0 .left, n .1))
     ∙ and-assoc (good3 s) (leZ (negℤ high) v) (leZ v high)
 

@@ -1,5 +1,5 @@
--- `symbol::make::agc_error` meets its contract: two squares of 16-bit numbers add up to at most 2^31, and so their sum, shifted right, is far from the ends of 64 bits.
--- The difference from an unsigned number of 32 bits is too, and `wrap_i32` takes any.
+-- `symbol::make::agc_error` meets its contract: two squares of 16-bit numbers add up to at most 2^31, and so their sum, shifted right, is far from the ends
+-- of 64 bits. The difference from an unsigned number of 32 bits is too, and `wrap_i32` takes any.
 use Prim.Native.Nat.{ℕ, _^_, _≤_}
 use mathlib.Core.Path.{_≡_, sym, ap, _∙_, subst}
 use native.Mathlib.Omega.{arith}
@@ -94,7 +94,8 @@ unfolding gainError
 returns c =
     let n = numbers (c .before) in
     let r = c .wrap-i32 in
-    held w32 (r .result) (r .ok) ∙ r .ensures ∙ ap wrapI32 (ap (λ (z : ℤ). in64 z) (lack-is (n .i) (n .q) (n .target)) ∙ toZ-ofZ (lack-fits (n .i) (n .q) (n .target)))
+    held w32 (r .result) (r .ok) ∙ r .ensures
+    ∙ ap wrapI32 (ap (λ (z : ℤ). in64 z) (lack-is (n .i) (n .q) (n .target)) ∙ toZ-ofZ (lack-fits (n .i) (n .q) (n .target)))
 
 pub agc-error-spec : {M : Type 1} → statement M
 agc-error-spec =

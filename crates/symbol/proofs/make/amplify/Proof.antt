@@ -27,9 +27,11 @@ returns c =
     let b = c .before .before in
     let a = b .before .before in
     let i : toZ w16 (ofZ w16 (b .times .result)) ≡ sat16Z (roundShift (a .args .x .i *ℤ pos (a .args .gain)) 10) =
-    held w16 (b .times .result) (b .times .ok) ∙ b .times .ensures ∙ ap (λ (z : ℤ). sat16Z (roundShift (z *ℤ pos (a .args .gain)) 10)) (toZ-ofZ (i-fits (b .before))) in
+    held w16 (b .times .result) (b .times .ok) ∙ b .times .ensures
+    ∙ ap (λ (z : ℤ). sat16Z (roundShift (z *ℤ pos (a .args .gain)) 10)) (toZ-ofZ (i-fits (b .before))) in
     let q : toZ w16 (ofZ w16 (c .times2 .result)) ≡ sat16Z (roundShift (a .args .x .q *ℤ pos (a .args .gain)) 10) =
-    held w16 (c .times2 .result) (c .times2 .ok) ∙ c .times2 .ensures ∙ ap (λ (z : ℤ). sat16Z (roundShift (z *ℤ pos (a .args .gain)) 10)) (toZ-ofZ (q-fits (c .before))) in
+    held w16 (c .times2 .result) (c .times2 .ok) ∙ c .times2 .ensures
+    ∙ ap (λ (z : ℤ). sat16Z (roundShift (z *ℤ pos (a .args .gain)) 10)) (toZ-ofZ (q-fits (c .before))) in
     λ t. record { i = i t; q = q t }
 
 pub amplify-spec : {M : Type 1} → statement M

@@ -24,8 +24,10 @@ returns c =
     let b = d .before .before in
     let a = b .before in
     let x = a .before .before .args .s in
-    let i = saturated 14 (held w64 (x .i) (search (a .before .struct-told .given))) (a .round-shift .ensures) (a .round-shift .ok) (b .sat16 .ensures) (b .sat16 .ok) in
-    let q = saturated 14 (held w64 (x .q) (search (d .before .struct-told2 .given))) (d .round-shift2 .ensures) (d .round-shift2 .ok) (c .sat162 .ensures) (c .sat162 .ok) in
+    let i = saturated 14 (held w64 (x .i) (search (a .before .struct-told .given))) (a .round-shift .ensures) (a .round-shift .ok) (b .sat16 .ensures)
+    (b .sat16 .ok) in
+    let q = saturated 14 (held w64 (x .q) (search (d .before .struct-told2 .given))) (d .round-shift2 .ensures) (d .round-shift2 .ok) (c .sat162 .ensures)
+    (c .sat162 .ok) in
     simp (i, q)
 
 pub output-of-spec : {M : Type 1} → statement M

@@ -129,7 +129,8 @@ clamped c =
     let whole : r .result ≡ roundShift (v *ℤ pos 1) shift = simp (toZ-ofZ (b .before .fits .v), toZ-pos w32 {n = 1} (omega arith)) at (r .ensures) in
     let rounded : r .result ≡ roundShift v shift = whole ∙ ap (λ (z : ℤ). roundShift z shift) (*ℤ-one v) in
     let ends = simp (held w64 (r .result) (r .ok), end-is j h, +ℤ-idl) at (c .clamp .ensures) in
-    let told : c .clamp .result ≡ _ = simp (high-is j h, toZ-ofZ (sfits-widen {w′ = w64} tt (low-fits j h)), toZ-ofZ (sfits-widen {w′ = w64} tt (high-fits j h))) at ends in
+    let told : c .clamp .result ≡ _ =
+    simp (high-is j h, toZ-ofZ (sfits-widen {w′ = w64} tt (low-fits j h)), toZ-ofZ (sfits-widen {w′ = w64} tt (high-fits j h))) at ends in
     simp rounded at told
 
 fits : (c : tie.After-clamp) → SFits w16 (c .clamp .result)

@@ -72,7 +72,8 @@ clamp-requires c κs = search needs
 
 -- what `clamp` answers
 is : (c : tie.After-clamp)
-    → let a = c .before .before .before .before .before .before .before .before .before .before .before .args in c .clamp .result ≡ timingError (a .p) (a .z) (a .dz)
+    → let a = c .before .before .before .before .before .before .before .before .before .before .before .args in c .clamp .result ≡ timingError (a .p) (a .z)
+    (a .dz)
 unfolding timingError
 is c =
     let r = c .before .shift-right in

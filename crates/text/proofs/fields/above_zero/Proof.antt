@@ -34,7 +34,8 @@ returns-3 : tie.Need-returns-3
 returns-3 c =
     let a = c .before .before .before .before .before .args in
     let l : a .d .size < 2 ^ 63 = omega arith in
-    ap holds (toZ-pos w64 l) ∙ sym (rw (not-false (a .d .formed) (c .before .before .before .if1 .left), le-ltb (a .up) (a .d .size) (c .before .if2 .left)) refl)
+    ap holds (toZ-pos w64 l) ∙ sym
+    (rw (not-false (a .d .formed) (c .before .before .before .if1 .left), le-ltb (a .up) (a .d .size) (c .before .if2 .left)) refl)
 
 pub above-zero-spec : {M : Type 1} → statement M
 above-zero-spec =

@@ -49,7 +49,11 @@ returns-3 c =
     let e = c .before .before .before in
     let a = e .before .before .before .before .args in
     c .bad3 .ensures
-    ∙ sym (rw (not-false (a .d .formed) (e .before .before .if1 .left), ne-eqb (a .d .size) 0 (e .if2 .left), lt-ltb (a .down) (a .d .size) (c .before .if3 .taken)) refl)
+    ∙ sym (rw (
+      not-false (a .d .formed) (e .before .before .if1 .left),
+      ne-eqb (a .d .size) 0 (e .if2 .left),
+      lt-ltb (a .down) (a .d .size) (c .before .if3 .taken),
+    ) refl)
 
 sub-t4 : tie.Need-sub-t4
 sub-t4 c = search needs
@@ -67,7 +71,11 @@ returns-4 c =
     let e = c .before .before .before in
     let a = e .before .before .before .before .args in
     ap holds (toZ-ofZ (sub-t6 c) ∙ less (a .d .size) (omega arith) (omega arith))
-    ∙ sym (rw (not-false (a .d .formed) (e .before .before .if1 .left), ne-eqb (a .d .size) 0 (e .if2 .left), le-ltb (a .down) (a .d .size) (c .before .if3 .left)) refl)
+    ∙ sym (rw (
+      not-false (a .d .formed) (e .before .before .if1 .left),
+      ne-eqb (a .d .size) 0 (e .if2 .left),
+      le-ltb (a .down) (a .d .size) (c .before .if3 .left),
+    ) refl)
 
 pub below-zero-spec : {M : Type 1} → statement M
 below-zero-spec =

@@ -86,7 +86,8 @@ loop-again c =
     let w = l .loop .inv .2 .0 in
     let d = getD s i 0 - 48 in
     let got : c .with-digit .result ≡ min (w * 10 + d) (2 ^ 63 + 1) =
-    c .with-digit .ensures ∙ ap (λ (x : ℕ). min (l .loop .size * 10 + x) (2 ^ 63 + 1)) (c .before .wide .ensures) ∙ R.cut-again (l .loop .size) w d (l .loop .inv .2 .1) in
+    c .with-digit .ensures ∙ ap (λ (x : ℕ). min (l .loop .size * 10 + x) (2 ^ 63 + 1)) (c .before .wide .ensures)
+    ∙ R.cut-again (l .loop .size) w d (l .loop .inv .2 .1) in
     (omega arith, omega arith, (w * 10 + d, got, l .loop .inv .2 .2 ∙ R.next s i w (omega arith) (e .before .if3 .left) (e .if4 .left)))
 
 returns-5 : tie.Need-returns-5 Inv-loop μ-loop

@@ -57,7 +57,8 @@ down-of-requires : tie.Need-down-of-requires
 down-of-requires c κs = search needs
 
 below-zero-requires : tie.Need-below-zero-requires
-below-zero-requires c κs = subst (λ (n : ℕ). n ≤ 2 ^ 63) (sym (c .down-of .ensures)) (down-small (c .before .before .before .before .before .before .args .kind))
+below-zero-requires c κs = subst (λ (n : ℕ). n ≤ 2 ^ 63) (sym (c .down-of .ensures))
+    (down-small (c .before .before .before .before .before .before .args .kind))
 
 returns-2 : tie.Need-returns-2
 unfolding fieldOf

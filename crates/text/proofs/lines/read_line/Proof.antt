@@ -1,5 +1,5 @@
--- `text::lines::read_line` meets its contract: the worst fault so far with that of what is left is the line's, and setting the values of what is left gives what
--- setting all gives. A field of wrong form decides at once; at the line's end the types have to end too.
+-- `text::lines::read_line` meets its contract: the worst fault so far with that of what is left is the line's, and setting the values of what is left gives
+-- what setting all gives. A field of wrong form decides at once; at the line's end the types have to end too.
 use mathlib.Core.Path.{_≡_, refl, sym, ap, _∙_, subst}
 use mathlib.Core.List.{List, [], _∷_}
 use Prim.Native.Nat.{ℕ, _+_, _-_, _≤_, _<_, max}
@@ -69,7 +69,8 @@ returns c =
     let same : f .field .result ≡ fieldOf (getD ks (l .loop .n) 0) b =
     f .field .ensures ∙ ap (λ (p : List ℕ). fieldOf (getD ks (l .loop .n) 0) p) (P.part-is s (l .loop .at) end is-end inside) in
     let wrong : fieldOf (getD ks (l .loop .n) 0) b .fault ≡ 2 = sym (ap (λ (x : Field). x .fault) same) ∙ c .if1 .taken in
-    let w : worst (drop (l .loop .n) ks) (parted (drop (l .loop .at) s)) ≡ max (fieldOf (getD ks (l .loop .n) 0) b .fault) (worst (drop (l .loop .n + 1) ks) (ps .0)) =
+    let w : worst (drop (l .loop .n) ks) (parted (drop (l .loop .at) s)) ≡ max (fieldOf (getD ks (l .loop .n) 0) b .fault)
+    (worst (drop (l .loop .n + 1) ks) (ps .0)) =
     ap (λ (fs : List (List ℕ)). worst (drop (l .loop .n) ks) fs) (ps .1) ∙ P.worst-step ks (l .loop .n) in-types b (ps .0) in
     let two : worst ks (parted s) ≡ 2 = omega (arith, P.worst-le (drop (l .loop .n + 1) ks) (ps .0), l .loop .inv .4, l .loop .inv .3) in
     record {
@@ -93,8 +94,10 @@ loop-of c = c .before .before .before .before .before .before .before .before .b
 
 -- With the field that was read, `fs` are left.
 with-field : (c : tie.After-out Inv-loop μ-loop) (fs : List (List ℕ))
-    → parted (drop (loop-of c .loop .at) (now (loop-of c .before .before .before .args .s))) ≡ before 44 (drop (loop-of c .loop .at) (now (loop-of c .before .before .before .args .s))) ∷ fs
-    → P.Left (now (loop-of c .before .before .before .args .kinds)) (now (loop-of c .before .before .before .args .s)) (now (loop-of c .before .before .before .args .out))
+    → parted (drop (loop-of c .loop .at) (now (loop-of c .before .before .before .args .s))) ≡ before 44
+    (drop (loop-of c .loop .at) (now (loop-of c .before .before .before .args .s))) ∷ fs
+    → P.Left (now (loop-of c .before .before .before .args .kinds)) (now (loop-of c .before .before .before .args .s))
+    (now (loop-of c .before .before .before .args .out))
     (c .before .put-value .last .1 .0) (loop-of c .loop .n + 1) (c .before .before .before .before .larger .result) fs
 with-field c fs ps =
     let l = loop-of c in
@@ -109,14 +112,16 @@ with-field c fs ps =
     let e = f .before .before .before in
     let in-types : n < length ks = e .before .loop-test .taken in
     let same : f .field .result ≡ F =
-    f .field .ensures ∙ ap (λ (p : List ℕ). fieldOf (getD ks n 0) p) (P.part-is s (l .loop .at) (e .comma-from .result) (e .comma-from .ensures .0) (l .loop .inv .1)) in
+    f .field .ensures ∙ ap (λ (p : List ℕ). fieldOf (getD ks n 0) p)
+    (P.part-is s (l .loop .at) (e .comma-from .result) (e .comma-from .ensures .0) (l .loop .inv .1)) in
     let fault : f .field .result .fault ≡ F .fault = ap (λ (x : Field). x .fault) same in
     let right : (F .fault ≡ 2 → ⊥) = λ (z : F .fault ≡ 2). g .before .if1 .left (fault ∙ z) in
     let value : toZ w64 (ofZ w64 (f .field .result .value)) ≡ F .value =
     toZ-ofZ {w = w64} (record { sfits = c .before .before .struct-told .given .1 .0 .1 }) ∙ ap (λ (x : Field). x .value) same in
     let step = P.left-step ks s (now (a .out)) (l .loop .out) n (l .loop .fault) b fs
     (subst (λ (q : List (List ℕ)). P.Left ks s (now (a .out)) (l .loop .out) n (l .loop .fault) q) ps (l .loop .inv .4, l .loop .inv .5)) in-types right in
-    let put : c .before .put-value .last .1 .0 ≡ set (l .loop .out) n (F .value) = c .before .put-value .ensures ∙ ap (λ (z : ℤ). set (l .loop .out) n z) value in
+    let put : c .before .put-value .last .1 .0 ≡ set (l .loop .out) n (F .value) = c .before .put-value .ensures
+    ∙ ap (λ (z : ℤ). set (l .loop .out) n z) value in
     let larger : g .larger .result ≡ max (l .loop .fault) (F .fault) = g .larger .ensures ∙ ap (λ (x : ℕ). max (l .loop .fault) x) fault in
     subst (λ (q : List ℤ). P.Left ks s (now (a .out)) q (n + 1) (g .larger .result) fs) (sym put)
     (subst (λ (m : ℕ). P.Left ks s (now (a .out)) (set (l .loop .out) n (F .value)) (n + 1) m fs) (sym larger) step)
@@ -150,7 +155,8 @@ returns-2 c =
     let k = o .before .before .before .before .before .before .before .before .before .before in
     let ps = P.parts-last s (e .at) (k .comma-from .result) (k .comma-from .ensures .0) (e .inv .1) (c .before .before .if2 .taken) in
     let all : length (now (a .kinds)) ≤ e .n + 1 = omega (arith, c .before .if3 .taken) in
-    let left = P.left-whole (now (a .kinds)) s (now (a .out)) (o .before .put-value .last .1 .0) (e .n + 1) (o .before .before .before .before .larger .result) (with-field o [] ps) all in
+    let left = P.left-whole (now (a .kinds)) s (now (a .out)) (o .before .put-value .last .1 .0) (e .n + 1)
+    (o .before .before .before .before .larger .result) (with-field o [] ps) all in
     subst (λ (r : ℕ). Reading (now (a .kinds)) s (now (a .out)) r (o .before .put-value .last .1 .0)) (sym (c .number-of .ensures)) left
 
 same-length-3 : tie.Need-same-length-3 Inv-loop μ-loop
@@ -166,7 +172,8 @@ returns-3 c =
     let k = o .before .before .before .before .before .before .before .before .before .before in
     let ps = P.parts-last s (e .at) (k .comma-from .result) (k .comma-from .ensures .0) (e .inv .1) (c .before .if2 .taken) in
     let more : e .n + 1 < length (now (a .kinds)) = omega (arith, k .before .loop-test .taken, c .if3 .left) in
-    P.left-short (now (a .kinds)) s (now (a .out)) (o .before .put-value .last .1 .0) (e .n + 1) (o .before .before .before .before .larger .result) (with-field o [] ps) more (fault-still o)
+    P.left-short (now (a .kinds)) s (now (a .out)) (o .before .put-value .last .1 .0) (e .n + 1) (o .before .before .before .before .larger .result)
+    (with-field o [] ps) more (fault-still o)
 
 add-at : tie.Need-add-at Inv-loop μ-loop
 add-at c = search needs

@@ -22,7 +22,11 @@ not-negative (negsuc n) f t = absurd (false≢true t)
 
 below-zero : (z : ℤ) → leZ (pos 0) z ≡ false → (negsuc 0 -ℤ z ≡ pos (mag z)) × (magnitudeOf z ≡ mag z + 1)
 below-zero (pos n) t = absurd (true≢false (sym (leb·zero n) ∙ t))
-below-zero (negsuc n) t = (ap (λ (b : Bool). cond b (negsuc (1 - suc (suc n))) (pos (suc n - 1))) (le-ltb (suc n) 1 (omega arith)) ∙ ap pos (omega arith), omega arith)
+below-zero (negsuc n) t = (
+  ap (λ (b : Bool). cond b (negsuc (1 - suc (suc n))) (pos (suc n - 1))) (le-ltb (suc n) 1 (omega arith))
+      ∙ ap pos (omega arith),
+  omega arith,
+)
 
 magnitude-up : (z : ℤ) → leZ (pos 0) z ≡ true → natAbs z ≡ magnitudeOf z
 magnitude-up (pos n) t = refl
@@ -37,7 +41,8 @@ less c = ap (λ (y : ℤ). negsuc 0 -ℤ y) (toZ-ofZ (c .before .fits .z)) ∙ b
 cast-result : tie.Need-cast-result
 cast-result c =
     let k = toZ-ofZ (c .before .fits .z) in
-    subst (λ (y : ℤ). T (nonNeg y) × Fits w64 (natAbs y)) (sym k) (not-negative (c .before .args .z) (c .before .fits .z) (subst (λ (y : ℤ). leZ (pos 0) y ≡ true) k (c .if1 .taken)))
+    subst (λ (y : ℤ). T (nonNeg y) × Fits w64 (natAbs y)) (sym k)
+    (not-negative (c .before .args .z) (c .before .fits .z) (subst (λ (y : ℤ). leZ (pos 0) y ≡ true) k (c .if1 .taken)))
 
 sub-result : tie.Need-sub-result
 sub-result c = subst (λ (z : ℤ). SFits w64 z) (sym (less c)) (record { sfits = c .before .fits .z .sfits })
@@ -46,7 +51,8 @@ less-read : (c : tie.Else1) → toZ w64 (ofZ w64 (negsuc 0 -ℤ toZ w64 (ofZ w64
 less-read c = toZ-ofZ (sub-result c) ∙ less c
 
 cast-result-2 : tie.Need-cast-result-2
-cast-result-2 c = subst (λ (y : ℤ). T (nonNeg y) × Fits w64 (natAbs y)) (sym (less-read c)) (tt, record { fits = lt-of-lt-of-le (c .before .fits .z .sfits) (lit≤ tt) })
+cast-result-2 c = subst (λ (y : ℤ). T (nonNeg y) × Fits w64 (natAbs y)) (sym (less-read c))
+    (tt, record { fits = lt-of-lt-of-le (c .before .fits .z .sfits) (lit≤ tt) })
 
 add-result : tie.Need-add-result
 add-result c = subst (λ (y : ℤ). Fits w64 (natAbs y + 1)) (sym (less-read c)) (record { fits = omega (arith, c .before .fits .z .sfits) })

@@ -94,7 +94,8 @@ loop-again : tie.Need-loop-again Inv-loop μ-loop
 loop-again c =
     let l = c .before .before .before .loop in
     let a = c .before .before .before .before .before .before .args in
-    let last = two (l .out) (a .at) (l .i) (l .v) (c .before .glyph .result) (c .glyph2 .result) (c .before .before .loop-test .taken) (c .before .glyph .ensures) (c .glyph2 .ensures) in
+    let last = two (l .out) (a .at) (l .i) (l .v) (c .before .glyph .result) (c .glyph2 .result) (c .before .before .loop-test .taken)
+    (c .before .glyph .ensures) (c .glyph2 .ensures) in
     (simp length-set (omega arith), omega arith, l .inv .2 ∙ last)
 
 glyph-requires-3 : tie.Need-glyph-requires-3 Inv-loop μ-loop

@@ -80,10 +80,13 @@ returns-3 c =
     let four = W.joined (W.joined two (p3 .put-bytes2 .ensures)) (p4 .put-digits2 .ensures .0) in
     let all = W.joined (W.joined (W.joined four (p5 .put-bytes3 .ensures)) (p6 .put-number .ensures .0)) (p7 .put-bytes4 .ensures) in
     let line : Put (endOf (a .samples) (a .symbols) (a .t)) (now (a .out)) (a .at) (p7 .put-bytes4 .result) (p7 .put-bytes4 .last .1 .0) =
-    subst (λ (z : ℤ). Put (endOf (a .samples) (a .symbols) z) (now (a .out)) (a .at) (p7 .put-bytes4 .result) (p7 .put-bytes4 .last .1 .0)) (toZ-ofZ (s .fits .t))
-    (subst (λ (t : List ℕ). Put t (now (a .out)) (a .at) (p7 .put-bytes4 .result) (p7 .put-bytes4 .last .1 .0)) (W.end-text (a .samples) (a .symbols) (toZ w64 (ofZ w64 (a .t)))) all) in
+    subst (λ (z : ℤ). Put (endOf (a .samples) (a .symbols) z) (now (a .out)) (a .at) (p7 .put-bytes4 .result) (p7 .put-bytes4 .last .1 .0))
+    (toZ-ofZ (s .fits .t))
+    (subst (λ (t : List ℕ). Put t (now (a .out)) (a .at) (p7 .put-bytes4 .result) (p7 .put-bytes4 .last .1 .0))
+    (W.end-text (a .samples) (a .symbols) (toZ w64 (ofZ w64 (a .t)))) all) in
     let fits : a .at + 70 ≤ length (now (a .out)) = omega (arith, p1 .before .before .before .if2 .left, p1 .before .before .before .before .if1 .left) in
-    subst (λ (t : List ℕ). Put t (now (a .out)) (a .at) (p7 .put-bytes4 .result) (p7 .put-bytes4 .last .1 .0)) (sym (W.with-room 70 (a .at) (now (a .out)) (endOf (a .samples) (a .symbols) (a .t)) fits)) line
+    subst (λ (t : List ℕ). Put t (now (a .out)) (a .at) (p7 .put-bytes4 .result) (p7 .put-bytes4 .last .1 .0))
+    (sym (W.with-room 70 (a .at) (now (a .out)) (endOf (a .samples) (a .symbols) (a .t)) fits)) line
 
 pub put-end-spec : {M : Type 1} → statement M
 put-end-spec =

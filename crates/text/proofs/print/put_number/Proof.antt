@@ -43,8 +43,11 @@ returns c =
     let s = t .before .before in
     let z = s .args .z in
     let e : decimal (m .result) ≡ textOf z =
-    ap decimal (m .ensures ∙ ap magnitudeOf (toZ-ofZ (s .fits .z))) ∙ sym (W.text-up z (subst (λ (y : ℤ). leZ (pos 0) y ≡ true) (toZ-ofZ (s .fits .z)) (t .if1 .taken))) in
-    (subst (λ (d : List ℕ). Put d (now (s .args .out)) (s .args .at) (p .put-digits .result) (p .put-digits .last .1 .0)) e (p .put-digits .ensures .0), omega arith)
+    ap decimal (m .ensures ∙ ap magnitudeOf (toZ-ofZ (s .fits .z)))
+    ∙ sym (W.text-up z (subst (λ (y : ℤ). leZ (pos 0) y ≡ true) (toZ-ofZ (s .fits .z)) (t .if1 .taken))) in (
+      subst (λ (d : List ℕ). Put d (now (s .args .out)) (s .args .at) (p .put-digits .result) (p .put-digits .last .1 .0)) e (p .put-digits .ensures .0),
+      omega arith,
+    )
 
 slice-write-out : tie.Need-slice-write-out
 slice-write-out c = search needs
@@ -74,7 +77,8 @@ returns-2 c =
     ap (λ (n : ℕ). 45 ∷ decimal n) (m .ensures ∙ ap magnitudeOf (toZ-ofZ (s .fits .z)))
     ∙ sym (W.text-down z (subst (λ (y : ℤ). leZ (pos 0) y ≡ false) (toZ-ofZ (s .fits .z)) (t .if1 .left))) in (
       subst (λ (d : List ℕ). Put d (now (s .args .out)) (s .args .at) (p .put-digits2 .result) (p .put-digits2 .last .1 .0)) e
-          (signed 45 (decimal (m .result)) (now (s .args .out)) (s .args .at) (p .put-digits2 .result) (p .put-digits2 .last .1 .0) (p .put-digits2 .ensures .0)),
+          (signed 45 (decimal (m .result)) (now (s .args .out)) (s .args .at) (p .put-digits2 .result) (p .put-digits2 .last .1 .0)
+          (p .put-digits2 .ensures .0)),
       omega arith,
     )
 

@@ -60,11 +60,13 @@ returns-3 c =
     let p2 = p3 .before .before .before .before .before in
     let p1 = p2 .before .before .before .before in
     let a = p1 .before .before .before .before .before .before .args in
-    let all = W.joined (W.joined (W.joined (W.joined (p1 .put-bytes .ensures) (p2 .put-digits .ensures .0)) (p3 .put-bytes2 .ensures)) (p4 .put-digits2 .ensures .0)) (p5 .put-bytes3 .ensures) in
+    let all = W.joined (W.joined (W.joined (W.joined (p1 .put-bytes .ensures) (p2 .put-digits .ensures .0)) (p3 .put-bytes2 .ensures))
+    (p4 .put-digits2 .ensures .0)) (p5 .put-bytes3 .ensures) in
     let line : Put (refusedOf (a .number) (a .line)) (now (a .out)) (a .at) (p5 .put-bytes3 .result) (p5 .put-bytes3 .last .1 .0) =
     subst (λ (t : List ℕ). Put t (now (a .out)) (a .at) (p5 .put-bytes3 .result) (p5 .put-bytes3 .last .1 .0)) (W.refused-text (a .number) (a .line)) all in
     let fits : a .at + 52 ≤ length (now (a .out)) = omega (arith, p1 .before .before .before .if2 .left, p1 .before .before .before .before .if1 .left) in
-    subst (λ (t : List ℕ). Put t (now (a .out)) (a .at) (p5 .put-bytes3 .result) (p5 .put-bytes3 .last .1 .0)) (sym (W.with-room 52 (a .at) (now (a .out)) (refusedOf (a .number) (a .line)) fits)) line
+    subst (λ (t : List ℕ). Put t (now (a .out)) (a .at) (p5 .put-bytes3 .result) (p5 .put-bytes3 .last .1 .0))
+    (sym (W.with-room 52 (a .at) (now (a .out)) (refusedOf (a .number) (a .line)) fits)) line
 
 pub put-refusal-spec : {M : Type 1} → statement M
 put-refusal-spec =

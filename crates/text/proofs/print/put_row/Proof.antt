@@ -104,12 +104,15 @@ loop-again c =
     let same : length (g .put-number .last .1 .0) ≡ length (l .loop .out) = g .put-number .kept .1 .0 in
     let z = getD zs (l .loop .n) (pos 0) in
     let put : Put (textOf z) (l .loop .out) (l .loop .p) (g .put-number .result) (g .put-number .last .1 .0) =
-    subst (λ (y : ℤ). Put (textOf y) (l .loop .out) (l .loop .p) (g .put-number .result) (g .put-number .last .1 .0)) (held w64 z (g .before .before .put-number-arg .given)) (g .put-number .ensures .0) in
-    let left = step zs (now (a .out)) (l .loop .out) (a .at) (l .loop .p) (l .loop .n) (g .put-number .result) (g .put-number .last .1 .0) h put (l .loop .inv .3) in (
+    subst (λ (y : ℤ). Put (textOf y) (l .loop .out) (l .loop .p) (g .put-number .result) (g .put-number .last .1 .0))
+    (held w64 z (g .before .before .put-number-arg .given)) (g .put-number .ensures .0) in
+    let left = step zs (now (a .out)) (l .loop .out) (a .at) (l .loop .p) (l .loop .n) (g .put-number .result) (g .put-number .last .1 .0) h put
+    (l .loop .inv .3) in (
       simp length-set (same ∙ l .loop .inv .0),
       omega arith,
       simp length-set (omega (arith, same, l .loop .inv .2, g .put-number .ensures .1)),
-      subst (λ (b : ℕ). Left zs (now (a .out)) (a .at) (set (g .put-number .last .1 .0) (g .put-number .result) b) (g .put-number .result + 1) (l .loop .n + 1)) (sym (c .behind .ensures)) left,
+      subst (λ (b : ℕ). Left zs (now (a .out)) (a .at) (set (g .put-number .last .1 .0) (g .put-number .result) b) (g .put-number .result + 1)
+          (l .loop .n + 1)) (sym (c .behind .ensures)) left,
     )
 
 same-length : tie.Need-same-length Inv-loop μ-loop

@@ -93,9 +93,15 @@ returns-5 c =
     let self = c .before .before .before .before .before .before .before .before .before .before .before .before .before .before .before .before .args .self in
     let at = c .before .before in
     let e = at .before in
-    let is = same-bits (at .at4 .result) (self .third) (record { sfits = at .at4 .ok }) (search (c .struct-told3 .given) depth 40) ∙ ap (λ (z : ℤ). eqZ z (self .third)) (at .at4 .ensures) in
+    let is = same-bits (at .at4 .result) (self .third) (record { sfits = at .at4 .ok }) (search (c .struct-told3 .given) depth 40)
+    ∙ ap (λ (z : ℤ). eqZ z (self .third)) (at .at4 .ensures) in
     let long = e .before .before .before .before .before .before .before .before .before .before .before .if1 .left in
-    simp (eq-eqb _ _ long, number-is (e .before .before .before .before .before .before .before .before), first-is (e .before .before .before .before), second-is e) is
+    simp (
+      eq-eqb _ _ long,
+      number-is (e .before .before .before .before .before .before .before .before),
+      first-is (e .before .before .before .before),
+      second-is e,
+    ) is
 
 pub is-spec : {M : Type 1} → statement M
 is-spec =
