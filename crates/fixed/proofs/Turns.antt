@@ -11,7 +11,7 @@ use lib.IntN.{ℤ, pos}
 use borrow.Author.Tests.{lt-ltb, le-leb}
 use Rattle.params.specs.Judge.{Sheet}
 use Rattle.symbol.specs.declared.Symbol.{Symbol}
-use Rattle.symbol.specs.Places.{placesOf, Put, hasRoom, putOf}
+use Rattle.symbol.specs.Places.{placesOf, Outcome, hasRoom, putOf}
 use Rattle.state.specs.declared.Pair.{Pair}
 use Rattle.state.specs.declared.Frontend.{Frontend}
 use Rattle.state.specs.Start.{noPair}
@@ -47,7 +47,7 @@ pub record Output (ys : List Symbol) (out₀ out : List ℤ) (count : ℕ) : Typ
   pub places : out ≡ flattened ys ++ drop (20 * count) out₀
 
 -- What a turn leaves of it, and how many symbols are then counted.
-abbrev pub emittedTo : Bool → Symbol → ℕ → List ℤ → Put
+abbrev pub emittedTo : Bool → Symbol → ℕ → List ℤ → Outcome
 emittedTo made y count out = cond made (putOf y count out) (record { count = count; output = out })
 
 -- with room for it, a symbol goes behind the others
@@ -58,7 +58,7 @@ put-is y count out h k = rw (lt-ltb count (length out / 20) h, le-leb (y .sample
 
 pub output-next : {ys : List Symbol} {out₀ out : List ℤ} {count : ℕ} (made : Bool) (y : Symbol) → count < length out / 20
     → (made ≡ true → y .sample ≤ 9223372036854775807) → Output ys out₀ out count
-    → let put : Put = emittedTo made y count out in Output (ys ++ cond made (y ∷ []) []) out₀ (put .output) (put .count)
+    → let put : Outcome = emittedTo made y count out in Output (ys ++ cond made (y ∷ []) []) out₀ (put .output) (put .count)
 unfolding flattened
 output-next {ys} {out₀} {out} {count} true y room fits o =
     let long : length (flattened ys) ≡ 20 * count = length-flattened ys ∙ ap (λ (n : ℕ). 20 * n) (sym (o .counted)) in
@@ -139,7 +139,7 @@ module _ (s : Sheet) (values : List ℤ) (out₀ : List ℤ) (x₀ : Kept) where
   module _ (room : 20 * (length values / 2) ≤ length out₀) (countable : x₀ .position .samples + length values / 2 ≤ 9223372036854775807) where
     pub turned-next : {out : List ℤ} {x y : Kept} {count n : ℕ} {a : Pair} {made : Bool} {symbol : Symbol} {count′ : ℕ} {out′ : List ℤ}
         → Turned out x count n → n < length values / 2 → getD (pairsOf values) n noPair ≡ a → Turn x y a made symbol
-        → _≡_ {A = Put} (record { count = count′; output = out′ }) (emittedTo made symbol count out) → length out′ ≡ length out
+        → _≡_ {A = Outcome} (record { count = count′; output = out′ }) (emittedTo made symbol count out) → length out′ ≡ length out
         → Turned out′ y count′ (n + 1)
     unfolding after emitted
     turned-next {out} {x} {y} {count} {n} {a} {made} {symbol} {count′} {out′} t below at turn is same =
@@ -154,7 +154,7 @@ module _ (s : Sheet) (values : List ℤ) (out₀ : List ℤ) (x₀ : Kept) where
           };
           at = omega (arith, turn .pushes .on .samples, t .at);
           most = omega arith;
-          few = subst (λ (put : Put). put .count ≤ n + 1) (sym is) (omega (arith, emitted-few made symbol count out, t .few));
+          few = subst (λ (put : Outcome). put .count ≤ n + 1) (sym is) (omega (arith, emitted-few made symbol count out, t .few));
           long = same ∙ t .long;
           output = λ f first.
               let all : emitted s f (some n) ++ cond made (symbol ∷ []) [] ≡ emitted s f (some (n + 1)) =
@@ -162,7 +162,7 @@ module _ (s : Sheet) (values : List ℤ) (out₀ : List ℤ) (x₀ : Kept) where
               ∙ ap (λ (l : List Symbol). emitted s f (some n) ++ l)
               (append-nil (madeBy s (after s f (some n)) a) ∙ turn .pushes .makes (after s f (some n)) (t .stands f first))) in
               subst (λ (ys : List Symbol). Output ys out₀ out′ count′) all
-              (subst (λ (put : Put). Output (emitted s f (some n) ++ cond made (symbol ∷ []) []) out₀ (put .output) (put .count)) (sym is)
+              (subst (λ (put : Outcome). Output (emitted s f (some n) ++ cond made (symbol ∷ []) []) out₀ (put .output) (put .count)) (sym is)
               (output-next made symbol free fits (t .output f first)));
           stands = λ f first.
               subst (Stands (s .params .taps) y) (sym (ap (after s f) (some-next n a below at) ∙ after-append s f (some n) (a ∷ [])))

@@ -1,5 +1,5 @@
 -- A block: samples in, symbols out, on any state and into any buffer.
--- (RULES 4.1, 4.2)
+-- (RULES 4.2)
 use Prim.Native.Nat.{ℕ, _*_}
 use mathlib.Core.Bool.{cond}
 use mathlib.Core.List.{List, [], _∷_, _++_}

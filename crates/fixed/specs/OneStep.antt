@@ -1,5 +1,6 @@
 -- What is claimed of a symbol and the six registers: in a state that a block can go on from, at which a symbol falls due, the registers change
 -- as `Registers::after_symbol` changes them, with the errors that wait longest, and in no other way.
+-- (RULES 3.11)
 use Prim.Native.Nat.{_<_}
 use mathlib.Core.Path.{_≡_}
 use mathlib.Core.Bool.{true}

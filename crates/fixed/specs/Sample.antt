@@ -9,7 +9,7 @@ use lib.Signed.{ltZ}
 use Rattle.params.specs.declared.Params.{Params}
 use Rattle.params.specs.Judge.{Sheet}
 use Rattle.registers.specs.declared.Registers.{Registers}
-use Rattle.registers.specs.Step.{one, found, left}
+use Rattle.registers.specs.Step.{gainOf, one, found, left}
 use Rattle.symbol.specs.declared.Symbol.{Symbol}
 use Rattle.symbol.specs.Make.{symbolFrom}
 use Rattle.state.specs.declared.Pair.{Pair}
@@ -49,7 +49,7 @@ unfoldable pub symbolOf : Sheet → Frontend → Symbol
 symbolOf s f =
     let p : Params = s .params in
     let phase : ℕ = natAbs (f .registers .«t_acc») / 2 ^ 18 in
-    symbolFrom p (due p f .«gain_acc» / 256) (due p f .period) (f .samples) phase (filtered s phase (f .line) (f .head))
+    symbolFrom p (gainOf (due p f)) (due p f .period) (f .samples) phase (filtered s phase (f .line) (f .head))
 
 -- The registers are as the symbol leaves them, and its errors wait.
 unfoldable pub withSymbol : Sheet → Frontend → Frontend

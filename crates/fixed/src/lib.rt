@@ -1,4 +1,4 @@
-// The fixed-point front end: what it keeps between samples, what it makes of them, and what its calls answer.
+// The fixed-point front end: what it makes of samples, from the state before them (crates/state) to their symbols and the state after them.
 //
 // A sample I, Q (16 bits each) goes through these steps; R(v, s) is v / 2^s rounded to the nearest whole number, a half upward, and >> rounds down.
 //
@@ -22,7 +22,7 @@
 //          e = (z_i dz_i + z_q dz_q) >> ted_shift                             24 bits, clipped
 //          err = agc_target - ((zk_i^2 + zk_q^2) >> 12)                       32 bits, wrapped
 //     d. e and err wait (queue.rt); t = t + period.
-//  4. t = t - 2^24, and one more sample is counted.
+//     Then, with a symbol or without, t = t - 2^24, and one more sample is counted.
 //
 // A block (block.rt) takes samples one after the other and writes 20 places a symbol.
 mod block;

@@ -5,7 +5,6 @@ ghost use mathlib.Core.Path.{_≡_};
 ghost use mathlib.Core.Bool.{_&&_};
 ghost use Rattle.kinds.specs.Kinds.{leastOf, mostOf, isKind, areKinds, placesNumber};
 
-// A count is unsigned of 64 bits; a place takes the lower half of these.
 pub const U8: u8 = 0;
 
 pub const U32: u8 = 1;
@@ -16,6 +15,7 @@ pub const I32: u8 = 3;
 
 pub const I64: u8 = 4;
 
+// A count is unsigned of 64 bits; a place takes the lower half of these.
 pub const COUNT: u8 = 5;
 
 // The least number of a kind.
@@ -71,8 +71,8 @@ fn both(a: bool, b: bool) -> bool
     false
 }
 
-// Whether there is a place for each kind, with a number of it. A number of another kind does not end the loop: without a way out of its turns the compiler
-// makes one straight run of a sheet's, and does not take what comes behind them for unlikely.
+// Whether there is a place for each kind, with a number of it. A number of another kind does not end the loop: the compiler unrolls it for a sheet's 17
+// places, and would take the code behind 17 ways out for code that hardly ever runs.
 pub fn are_kinds(kinds: &[u8], places: &[i64]) -> bool
     ensures { λ r. ⌜ r ≡ areKinds (now (kinds .entry)) (now (places .entry)) ⌝ }
 {

@@ -9,7 +9,6 @@ ghost use mathlib.Core.Path.{_≡_};
 ghost use mathlib.Core.Bool.{true};
 ghost use mathlib.Core.List.{_++_};
 ghost use lib.ListN.{length, take, drop};
-ghost use Rattle.state.specs.Start.{atRest};
 ghost use Rattle.places.specs.States.{stateKinds, stateFits, stateOf, readState, lineOf, pendingOf};
 ghost use Rattle.places.specs.States.{areCounts, hasPlaces, firstNumbers, lineNumbers, pendingNumbers, stateWritten};
 
@@ -92,35 +91,12 @@ fn pending_of(state: &[i64]) -> [Pending; 24]
     pending
 }
 
-fn zeros() -> Frontend
-    ensures { λ r. ⌜ r ≡ atRest 0 0 ⌝ }
-{
-    let none = Pair { i: 0, q: 0 };
-    let nothing = Pending { e: 0, err: 0 };
-    Frontend {
-        registers: Registers {
-            nco: 0,
-            t_acc: 0,
-            v: 0,
-            period: 0,
-            gain_acc: 0,
-            symbols: 0,
-        },
-        line: [none; 64],
-        head: 0,
-        pending: [nothing; 24],
-        oldest: 0,
-        waiting: 0,
-        samples: 0,
-    }
-}
-
 // The state of these places. Where they are those of no state it is zeros throughout, and 9 refuses these: no sheet has a period of 0.
 pub fn read_state(state: &[i64]) -> Frontend
     ensures { λ r. ⌜ r ≡ readState (now (state .entry)) ⌝ }
 {
     if !fits(state) {
-        return zeros();
+        return Frontend::at_rest(0, 0);
     }
     Frontend {
         registers: registers_of(state),

@@ -1,4 +1,5 @@
 -- Where the numbers of a line go: I and Q of pair n to the places 2n and 2n + 1.
+-- (RULES 7.2)
 use Prim.Native.Nat.{ℕ, _*_, _/_, _+_}
 use mathlib.Core.Bool.{cond}
 use mathlib.Core.List.{List}

@@ -1,6 +1,6 @@
 // The next line of the input, or the number that its end has.
 ghost use mathlib.Core.Path.{_≡_};
-ghost use Rattle.recording.specs.Lines.{nextOf, endOf};
+ghost use Rattle.recording.specs.Lines.{nextOf, nextAtEnd};
 use crate::Next;
 use text::LineEnd;
 
@@ -9,7 +9,7 @@ const NEEDED: u64 = 193;
 
 // The input is at its end, behind so many bytes of this line.
 fn end(unread: usize, line: u64) -> Next
-    ensures { λ r. ⌜ r ≡ endOf unread line ⌝ }
+    ensures { λ r. ⌜ r ≡ nextAtEnd unread line ⌝ }
 {
     if 0 < unread {
         return Next::Refused(18);

@@ -1,6 +1,6 @@
 -- A symbol's step on the six registers, of any registers and any sheet: they change as one group, or are left as they are.
--- (RULES 3.11)
-use Prim.Native.Nat.{ℕ, _+_}
+-- (RULES 3.6, 3.11)
+use Prim.Native.Nat.{ℕ, _+_, _/_}
 use mathlib.Core.Bool.{Bool, true, false, cond, _&&_}
 use lib.Dec.{eqb, ltb}
 use lib.IntN.{ℤ, pos, negℤ, _+ℤ_, _-ℤ_}
@@ -19,6 +19,10 @@ loopDelay = 24
 -- So errors are due where as many wait.
 abbrev pub isDue : ℕ → Bool
 isDue waiting = eqb waiting loopDelay
+
+-- The gain: the upper 16 of the accumulator's 24 bits.
+abbrev pub gainOf : Registers → ℕ
+gainOf r = r .«gain_acc» / 256
 
 -- One sample, in 2^24ths.
 abbrev pub one : ℤ

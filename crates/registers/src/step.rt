@@ -6,9 +6,9 @@ use crate::Registers;
 use crate::correct;
 use params::Params;
 ghost use mathlib.Core.Path.{_≡_};
-ghost use Prim.Native.Nat.{_^_, _/_, _%_, _≤_, _<_};
+ghost use Prim.Native.Nat.{_^_, _%_, _≤_, _<_};
 ghost use lib.IntN.{natAbs};
-ghost use Rattle.registers.specs.Step.{isDue, canMakeSymbol, found, left, afterSymbol};
+ghost use Rattle.registers.specs.Step.{isDue, gainOf, canMakeSymbol, found, left, afterSymbol};
 
 // Whether errors are due where so many wait.
 pub fn is_due(waiting: usize) -> bool
@@ -18,9 +18,9 @@ pub fn is_due(waiting: usize) -> bool
 }
 
 impl Registers {
-    // The gain, the upper 16 of the accumulator's 24 bits.
+    // The gain. Of an accumulator of more than 24 bits, which no accepted state has, its lower 16 bits are left.
     pub fn gain(self) -> u16
-        ensures { λ r. ⌜ r ≡ self .«gain_acc» / 256 % 65536 ⌝ }
+        ensures { λ r. ⌜ r ≡ gainOf self % 65536 ⌝ }
     {
         (self.gain_acc / 256 % 65536) as u16
     }

@@ -11,7 +11,7 @@ use lib.ListN.{length, getD, drop, set}
 use lib.Seq.{drop-cons}
 use Rattle.replay.specs.declared.Number.{Number}
 use Rattle.replay.specs.declared.Cursor.{Cursor}
-use Rattle.replay.specs.Rows.{Read, read, noNumber, digitAdded, signedValue, endsNumber, withByte, withBytes}
+use Rattle.replay.specs.Rows.{ReadRow, read, noNumber, digitAdded, signedValue, endsNumber, withByte, withBytes}
 
 -- a cursor in a row that has not ended
 abbrev pub within : ℕ → ℕ → Number → Cursor
@@ -27,12 +27,12 @@ unfolding endsNumber
 no-row-end b e = neither (eqb b 44) (eqb b 10) e
 
 -- where no byte is left nothing changes
-pub none-left : (s : Read) {l : List ℕ} → l ≡ [] → withBytes s l ≡ s
+pub none-left : (s : ReadRow) {l : List ℕ} → l ≡ [] → withBytes s l ≡ s
 unfolding withBytes
 none-left s e = rw e
 
 module _ (bytes : List ℕ) (at column : ℕ) (number : Number) (row : List ℤ) (h : at < length bytes) where
-  abbrev here : Read
+  abbrev here : ReadRow
   here = read (within at column number) row
 
   abbrev byte : ℕ

@@ -41,11 +41,11 @@ abbrev pub moved : Cursor → ℕ → Cursor
 moved c at = record { at = at; column = c .column; number = c .number; ended = c .ended }
 
 -- A cursor, and the numbers of the row that it is in.
-pub record Read : Type 0 where
+pub record ReadRow : Type 0 where
   pub cursor : Cursor
   pub row : List ℤ
 
-abbrev pub read : Cursor → List ℤ → Read
+abbrev pub read : Cursor → List ℤ → ReadRow
 read c row = record { cursor = c; row = row }
 
 -- A number ends with a comma, 44, or a line feed, 10.
@@ -53,7 +53,7 @@ unfoldable pub endsNumber : ℕ → Bool
 endsNumber b = eqb b 44 || eqb b 10
 
 -- With one more byte. A number's end sets its place in the row, where there is one, and counts the column, modulo 2^64. With the line feed the row has ended.
-unfoldable pub withByte : Read → ℕ → Read
+unfoldable pub withByte : ReadRow → ℕ → ReadRow
 withByte s b =
     let c : Cursor = s .cursor in
     cond (endsNumber b)
@@ -62,7 +62,7 @@ withByte s b =
     (read (record { at = c .at + 1; column = c .column; number = digitAdded (c .number) b; ended = false }) (s .row))
 
 -- With the bytes up to the first line feed, or with all where there is none.
-unfoldable pub withBytes : Read → List ℕ → Read
+unfoldable pub withBytes : ReadRow → List ℕ → ReadRow
 withBytes s [] = s
 withBytes s (b ∷ bs) = cond (eqb b 10) (withByte s b) (withBytes (withByte s b) bs)
 
@@ -71,7 +71,7 @@ abbrev pub begun : Cursor → Cursor
 begun c = record { at = c .at; column = cond (c .ended) 0 (c .column); number = c .number; ended = false }
 
 -- What reading on from a cursor in a piece of bytes leaves, of a row that held these numbers.
-unfoldable pub rowRead : Cursor → List ℕ → List ℤ → Read
+unfoldable pub rowRead : Cursor → List ℕ → List ℤ → ReadRow
 rowRead c bytes row = withBytes (read (begun c) row) (drop (c .at) bytes)
 
 -- A cursor that has read on in a piece of n bytes: not past the end and, unless it stood there, at least one byte.

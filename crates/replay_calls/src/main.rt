@@ -1,7 +1,7 @@
 // Replays the oracle's answers to whole calls: judging a sheet, the offset of a period, starting, blocks of samples, readings. Standard input has a row for
 // each part of a call; the program makes the call and counts where it answers something else.
 //
-// A row's numbers stand for a sheet (sheet.rt), an answer (answer.rt) or a state (state.rt), and calls.rt does what the row says.
+// A row's numbers stand for a sheet (sheet.rt), an answer (answer.rt) or a state (states.rt), and calls.rt does what the row says.
 mod answer;
 mod calls;
 mod sheet;

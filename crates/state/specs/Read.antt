@@ -1,10 +1,11 @@
 -- Reading a state: period, gain and symbol count.
 -- (RULES 4.3)
-use Prim.Native.Nat.{ℕ, _/_}
+use Prim.Native.Nat.{ℕ}
 use mathlib.Core.Bool.{cond}
 use lib.Dec.{eqb}
 use Rattle.params.specs.Refusal.{Refusal, nothing}
 use Rattle.params.specs.Judge.{Sheet, firstOf}
+use Rattle.registers.specs.Step.{gainOf}
 use Rattle.state.specs.declared.Frontend.{Frontend}
 use Rattle.state.specs.declared.Reading.{Reading}
 use Rattle.state.specs.Check.{stateFaults, frontendRefusal}
@@ -20,7 +21,7 @@ unfoldable pub readOf : Sheet → Frontend → Read
 readOf s f =
     let r : Refusal = firstOf (stateFaults s f) in
     cond (eqb (r .number) 0)
-    (record { refused = nothing; period = f .registers .period; gain = f .registers .«gain_acc» / 256; symbols = f .registers .symbols })
+    (record { refused = nothing; period = f .registers .period; gain = gainOf (f .registers); symbols = f .registers .symbols })
     (record { refused = r; period = 0; gain = 0; symbols = 0 })
 
 abbrev pub reading : Reading → Read

@@ -12,7 +12,7 @@ ghost use Rattle.state.specs.Start.{atRest, startOf, started};
 
 impl Frontend {
     // A state at rest with this period and this gain accumulator.
-    fn at_rest(period: u32, gain_acc: u32) -> Frontend
+    pub fn at_rest(period: u32, gain_acc: u32) -> Frontend
         ensures { λ r. ⌜ r ≡ atRest period «gain_acc» ⌝ }
     {
         let pair = Pair { i: 0, q: 0 };

@@ -15,7 +15,7 @@ placesOf y =
     ∷ y .z .i ∷ y .z .q ∷ y .dz .i ∷ y .dz .q ∷ y .zk .i ∷ y .zk .q ∷ y .q .i ∷ y .q .q ∷ y .e ∷ y .err ∷ []
 
 -- How many symbols then stand in an output, and what it holds.
-pub record Put : Type 0 where
+pub record Outcome : Type 0 where
   pub count : ℕ
   pub output : List ℤ
 
@@ -24,7 +24,7 @@ unfoldable pub hasRoom : Symbol → ℕ → List ℤ → Bool
 hasRoom y count out = ltb count (length out / 20) && leb (y .sample) 9223372036854775807
 
 -- The symbol's places stand behind those of `count` others, and what was behind these goes on; without room nothing changes.
-unfoldable pub putOf : Symbol → ℕ → List ℤ → Put
+unfoldable pub putOf : Symbol → ℕ → List ℤ → Outcome
 putOf y count out =
     cond (hasRoom y count out)
     (record { count = count + 1; output = take (20 * count) out ++ (placesOf y ++ drop (20 * count + 20) out) })

@@ -1,6 +1,6 @@
 -- The laws of text that the proofs of this crate cite: how a number is read, a line separated into fields and a line printed, and that reading and printing
 -- undo each other.
 pub mod Reading
-pub mod Parting
+pub mod Splitting
 pub mod Writing
 pub mod Inverse

@@ -36,9 +36,9 @@ abbrev pub onto : ℕ → List (List ℕ) → List (List ℕ)
 onto b [] = (b ∷ []) ∷ []
 onto b (f ∷ fs) = (b ∷ f) ∷ fs
 
-unfoldable pub parted : List ℕ → List (List ℕ)
-parted [] = [] ∷ []
-parted (b ∷ t) = cond (eqb b 44) ([] ∷ parted t) (onto b (parted t))
+unfoldable pub splitFields : List ℕ → List (List ℕ)
+splitFields [] = [] ∷ []
+splitFields (b ∷ t) = cond (eqb b 44) ([] ∷ splitFields t) (onto b (splitFields t))
 
 -- ---- what reading answers
 
@@ -62,5 +62,5 @@ values (k ∷ ks) (f ∷ fs) = cond (eqb (fieldOf k f .fault) 2) [] (fieldOf k f
 
 -- Reading a line: its number, and the values set in the lent places from the first on. Values past the last place are dropped, the other places stay.
 pub record Reading (kinds line : List ℕ) (out : List ℤ) (r : ℕ) (left : List ℤ) : Type 0 where
-  pub number : r ≡ numberOf (worst kinds (parted line))
-  pub places : left ≡ sets out 0 (values kinds (parted line))
+  pub number : r ≡ numberOf (worst kinds (splitFields line))
+  pub places : left ≡ sets out 0 (values kinds (splitFields line))

@@ -16,8 +16,8 @@ use Rattle.places.proofs.states.read_state.Tie as tie
 fits-requires : tie.Need-fits-requires
 fits-requires c κs = search needs
 
-zeros-requires : tie.Need-zeros-requires
-zeros-requires c κs = search needs
+at-rest-requires : tie.Need-at-rest-requires
+at-rest-requires c κs = search needs
 
 returns : tie.Need-returns
 unfolding readState
@@ -25,7 +25,7 @@ returns c =
     let tested = c .before .before in
     let unfit : stateFits (tested .before .args .state .now) ≡ false =
     sym (tested .fits2 .ensures) ∙ not-true (tested .fits2 .result) (c .before .if1 .taken) in
-    rw unfit (c .zeros .ensures)
+    rw unfit (c .at-rest .ensures)
 
 -- ---- places that fit
 
@@ -80,7 +80,7 @@ read-state-spec =
     tie.close
     (tie.spec
     fits-requires
-    zeros-requires
+    at-rest-requires
     returns
     registers-of-requires
     line-of-requires

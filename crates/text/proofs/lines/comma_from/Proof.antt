@@ -6,7 +6,7 @@ use native.Mathlib.Omega.{arith}
 use lib.ListN.{length, drop}
 use denote.Ref.{now}
 use Rattle.text.specs.Line.{before}
-use Rattle.text.proofs.Parting as P
+use Rattle.text.proofs.Splitting as P
 use Rattle.text.proofs.lines.comma_from.Statement.{statement}
 use Rattle.text.proofs.lines.comma_from.Tie as tie
 

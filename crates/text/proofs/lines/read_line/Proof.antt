@@ -14,16 +14,16 @@ use denote.Ref.{now}
 use borrow.Author.Needs.{needs}
 use Rattle.text.specs.declared.Field.{Field}
 use Rattle.text.specs.Field.{fieldOf}
-use Rattle.text.specs.Line.{before, parted, worst, values, numberOf, Reading}
-use Rattle.text.proofs.Parting as P
+use Rattle.text.specs.Line.{before, splitFields, worst, values, numberOf, Reading}
+use Rattle.text.proofs.Splitting as P
 use Rattle.text.proofs.lines.read_line.Statement.{statement}
 use Rattle.text.proofs.lines.read_line.Tie as tie
 
 abbrev Inv-loop : tie.InvT-loop
 Inv-loop s kinds out₀ at₀ n₀ fault₀ out at n fault =
     (length out ≡ length out₀) × (at ≤ length s) × (n ≤ length kinds) × (fault ≤ 2)
-    × (worst kinds (parted s) ≡ max fault (worst (drop n kinds) (parted (drop at s))))
-    × (sets out₀ 0 (values kinds (parted s)) ≡ sets out n (values (drop n kinds) (parted (drop at s))))
+    × (worst kinds (splitFields s) ≡ max fault (worst (drop n kinds) (splitFields (drop at s))))
+    × (sets out₀ 0 (values kinds (splitFields s)) ≡ sets out n (values (drop n kinds) (splitFields (drop at s))))
 
 abbrev μ-loop : tie.MeasureT-loop
 μ-loop s kinds out₀ at₀ n₀ fault₀ out at n fault = length kinds - n
@@ -69,10 +69,10 @@ returns c =
     let same : f .field .result ≡ fieldOf (getD ks (l .loop .n) 0) b =
     f .field .ensures ∙ ap (λ (p : List ℕ). fieldOf (getD ks (l .loop .n) 0) p) (P.part-is s (l .loop .at) end is-end inside) in
     let wrong : fieldOf (getD ks (l .loop .n) 0) b .fault ≡ 2 = sym (ap (λ (x : Field). x .fault) same) ∙ c .if1 .taken in
-    let w : worst (drop (l .loop .n) ks) (parted (drop (l .loop .at) s)) ≡ max (fieldOf (getD ks (l .loop .n) 0) b .fault)
+    let w : worst (drop (l .loop .n) ks) (splitFields (drop (l .loop .at) s)) ≡ max (fieldOf (getD ks (l .loop .n) 0) b .fault)
     (worst (drop (l .loop .n + 1) ks) (ps .0)) =
     ap (λ (fs : List (List ℕ)). worst (drop (l .loop .n) ks) fs) (ps .1) ∙ P.worst-step ks (l .loop .n) in-types b (ps .0) in
-    let two : worst ks (parted s) ≡ 2 = omega (arith, P.worst-le (drop (l .loop .n + 1) ks) (ps .0), l .loop .inv .4, l .loop .inv .3) in
+    let two : worst ks (splitFields s) ≡ 2 = omega (arith, P.worst-le (drop (l .loop .n + 1) ks) (ps .0), l .loop .inv .4, l .loop .inv .3) in
     record {
       number = sym (ap numberOf two);
       places = sym (l .loop .inv .5 ∙ ap (λ (vs : List ℤ). sets (l .loop .out) (l .loop .n) vs)
@@ -94,7 +94,7 @@ loop-of c = c .before .before .before .before .before .before .before .before .b
 
 -- With the field that was read, `fs` are left.
 with-field : (c : tie.After-out Inv-loop μ-loop) (fs : List (List ℕ))
-    → parted (drop (loop-of c .loop .at) (now (loop-of c .before .before .before .args .s))) ≡ before 44
+    → splitFields (drop (loop-of c .loop .at) (now (loop-of c .before .before .before .args .s))) ≡ before 44
     (drop (loop-of c .loop .at) (now (loop-of c .before .before .before .args .s))) ∷ fs
     → P.Left (now (loop-of c .before .before .before .args .kinds)) (now (loop-of c .before .before .before .args .s))
     (now (loop-of c .before .before .before .args .out))
@@ -191,7 +191,7 @@ loop-again c =
     let k = o .before .before .before .before .before .before .before .before .before .before in
     let end : k .comma-from .result < length s = omega (arith, k .comma-from .ensures .1, c .if2 .left) in
     let ps = P.parts-more s (e .at) (k .comma-from .result) (k .comma-from .ensures .0) (e .inv .1) end in
-    let left = with-field o (parted (drop (k .comma-from .result + 1) s)) ps in
+    let left = with-field o (splitFields (drop (k .comma-from .result + 1) s)) ps in
     (o .before .put-value .kept .1 .0 ∙ e .inv .0, omega arith, omega (arith, k .before .loop-test .taken), fault-still o, left .0, left .1)
 
 same-length-4 : tie.Need-same-length-4 Inv-loop μ-loop
@@ -205,10 +205,10 @@ returns-4 c =
     let ks = now (a .kinds) in
     let rest = drop (l .loop .at) s in
     let h : length ks ≤ l .loop .n = c .loop-test .left in
-    let two : worst ks (parted s) ≡ 2 = omega (arith, P.worst-long ks (l .loop .n) h rest, l .loop .inv .4, l .loop .inv .3) in
+    let two : worst ks (splitFields s) ≡ 2 = omega (arith, P.worst-long ks (l .loop .n) h rest, l .loop .inv .4, l .loop .inv .3) in
     record {
       number = sym (ap numberOf two);
-      places = sym (l .loop .inv .5 ∙ ap (λ (vs : List ℤ). sets (l .loop .out) (l .loop .n) vs) (P.values-long ks (l .loop .n) h (parted rest)));
+      places = sym (l .loop .inv .5 ∙ ap (λ (vs : List ℤ). sets (l .loop .out) (l .loop .n) vs) (P.values-long ks (l .loop .n) h (splitFields rest)));
     }
 
 pub read-line-spec : {M : Type 1} → statement M

@@ -14,7 +14,7 @@ use borrow.Author.Tests.{lt-ltb, le-ltb, eq-eqb, ne-eqb}
 use Rattle.text.specs.declared.LineEnd.the-variants.{After, TooLong, Open}
 use Rattle.text.specs.Number.{Said, none, some, numeral}
 use Rattle.text.specs.Field.{fieldIn, fieldOf, downOf, upOf, plain, negative, outside, holds, wrongForm}
-use Rattle.text.specs.Line.{before, lineEndOf, Settled, onto, parted, worst, numberOf, values, Reading}
+use Rattle.text.specs.Line.{before, lineEndOf, Settled, onto, splitFields, worst, numberOf, values, Reading}
 
 -- ---- the first x
 
@@ -90,32 +90,32 @@ settled a b not-open = elim (decLe (suc 1024) (length (before 10 a))) [
 
 -- ---- fields
 
-pub parted-last : (l : List ℕ) → length l ≤ length (before 44 l) → parted l ≡ l ∷ []
-unfolding before parted
-parted-last [] h = refl
-parted-last (b ∷ t) h = go (eqb b 44) h (λ (k : length t ≤ length (before 44 t)). parted-last t k)
+pub splitFields-last : (l : List ℕ) → length l ≤ length (before 44 l) → splitFields l ≡ l ∷ []
+unfolding before splitFields
+splitFields-last [] h = refl
+splitFields-last (b ∷ t) h = go (eqb b 44) h (λ (k : length t ≤ length (before 44 t)). splitFields-last t k)
   where
-    go : (q : Bool) → suc (length t) ≤ length (cond q [] (b ∷ before 44 t)) → (length t ≤ length (before 44 t) → parted t ≡ t ∷ [])
-        → cond q ([] ∷ parted t) (onto b (parted t)) ≡ (b ∷ t) ∷ []
+    go : (q : Bool) → suc (length t) ≤ length (cond q [] (b ∷ before 44 t)) → (length t ≤ length (before 44 t) → splitFields t ≡ t ∷ [])
+        → cond q ([] ∷ splitFields t) (onto b (splitFields t)) ≡ (b ∷ t) ∷ []
     go true k f = absurd (omega arith)
     go false k f = rw (f (omega arith)) refl
 
-pub parted-more : (l : List ℕ) → length (before 44 l) < length l → parted l ≡ before 44 l ∷ parted (drop (suc (length (before 44 l))) l)
-unfolding before parted
-parted-more [] h = absurd (omega arith)
-parted-more (b ∷ t) h = go (eqb b 44) h (λ (k : length (before 44 t) < length t). parted-more t k)
+pub splitFields-more : (l : List ℕ) → length (before 44 l) < length l → splitFields l ≡ before 44 l ∷ splitFields (drop (suc (length (before 44 l))) l)
+unfolding before splitFields
+splitFields-more [] h = absurd (omega arith)
+splitFields-more (b ∷ t) h = go (eqb b 44) h (λ (k : length (before 44 t) < length t). splitFields-more t k)
   where
     go : (q : Bool) → length (cond q [] (b ∷ before 44 t)) < suc (length t)
-        → (length (before 44 t) < length t → parted t ≡ before 44 t ∷ parted (drop (suc (length (before 44 t))) t))
-        → cond q ([] ∷ parted t) (onto b (parted t)) ≡ cond q [] (b ∷ before 44 t) ∷ parted (drop (length (cond q [] (b ∷ before 44 t))) t)
+        → (length (before 44 t) < length t → splitFields t ≡ before 44 t ∷ splitFields (drop (suc (length (before 44 t))) t))
+        → cond q ([] ∷ splitFields t) (onto b (splitFields t)) ≡ cond q [] (b ∷ before 44 t) ∷ splitFields (drop (length (cond q [] (b ∷ before 44 t))) t)
     go true k f = refl
     go false k f = rw (f (omega arith)) refl
 
 -- A line has a field, so that without a type it is of wrong form.
-pub never-none : (l : List ℕ) → worst [] (parted l) ≡ 2
-unfolding parted worst
+pub never-none : (l : List ℕ) → worst [] (splitFields l) ≡ 2
+unfolding splitFields worst
 never-none [] = refl
-never-none (b ∷ t) = go (eqb b 44) (parted t)
+never-none (b ∷ t) = go (eqb b 44) (splitFields t)
   where
     go : (q : Bool) (fs : List (List ℕ)) → worst [] (cond q ([] ∷ fs) (onto b fs)) ≡ 2
     go true fs = refl
@@ -165,22 +165,22 @@ module _ (s : List ℕ) (at end : ℕ) (is-end : end ≡ at + length (before 44 
       let k : end - at ≡ length (before 44 (drop at s)) = omega arith in
       ap (λ (n : ℕ). take n (drop at s)) k ∙ take-before 44 (drop at s)
 
-  pub parts-last : end ≡ length s → parted (drop at s) ≡ before 44 (drop at s) ∷ []
+  pub parts-last : end ≡ length s → splitFields (drop at s) ≡ before 44 (drop at s) ∷ []
   parts-last e =
       let h : length (drop at s) ≤ length (before 44 (drop at s)) = simp length-drop (omega arith) in
-      parted-last (drop at s) h ∙ ap (λ (l : List ℕ). l ∷ []) (sym (take-all (length (before 44 (drop at s))) (drop at s) h) ∙ take-before 44 (drop at s))
+      splitFields-last (drop at s) h ∙ ap (λ (l : List ℕ). l ∷ []) (sym (take-all (length (before 44 (drop at s))) (drop at s) h) ∙ take-before 44 (drop at s))
 
-  pub parts-more : end < length s → parted (drop at s) ≡ before 44 (drop at s) ∷ parted (drop (end + 1) s)
+  pub parts-more : end < length s → splitFields (drop at s) ≡ before 44 (drop at s) ∷ splitFields (drop (end + 1) s)
   parts-more l =
       let h : length (before 44 (drop at s)) < length (drop at s) = simp length-drop (omega arith) in
       let k : at + suc (length (before 44 (drop at s))) ≡ end + 1 = omega arith in
-      parted-more (drop at s) h
-      ∙ ap (λ (r : List ℕ). before 44 (drop at s) ∷ parted r) (drop-drop (suc (length (before 44 (drop at s)))) at s ∙ ap (λ (n : ℕ). drop n s) k)
+      splitFields-more (drop at s) h
+      ∙ ap (λ (r : List ℕ). before 44 (drop at s) ∷ splitFields r) (drop-drop (suc (length (before 44 (drop at s)))) at s ∙ ap (λ (n : ℕ). drop n s) k)
 
-  pub parts : end ≤ length s → (fs : List (List ℕ)) × (parted (drop at s) ≡ before 44 (drop at s) ∷ fs)
+  pub parts : end ≤ length s → (fs : List (List ℕ)) × (splitFields (drop at s) ≡ before 44 (drop at s) ∷ fs)
   parts h = elim (decLe (length s) end) [
     | yes l ↦ ([], parts-last (omega arith))
-    | no g ↦ (parted (drop (end + 1) s), parts-more (omega arith))
+    | no g ↦ (splitFields (drop (end + 1) s), parts-more (omega arith))
   ]
 
 -- ---- one field more: its type is number n
@@ -199,7 +199,7 @@ module _ (ks : List ℕ) (n : ℕ) where
   unfolding worst
   worst-short h = rw (drop-cons ks n 0 h)
 
-  pub worst-long : length ks ≤ n → (l : List ℕ) → worst (drop n ks) (parted l) ≡ 2
+  pub worst-long : length ks ≤ n → (l : List ℕ) → worst (drop n ks) (splitFields l) ≡ 2
   worst-long h l = rw (drop-of-length-le ks h) (never-none l)
 
   pub values-wrong : n < length ks → (f : List ℕ) (fs : List (List ℕ)) → fieldOf (getD ks n 0) f .fault ≡ 2 → values (drop n ks) (f ∷ fs) ≡ []
@@ -223,8 +223,8 @@ values-none (k ∷ ks) = refl
 -- ---- what is left of a line, after n fields: `fs`, with the worst fault so far and the places as they are
 
 abbrev pub Left : List ℕ → List ℕ → List ℤ → List ℤ → ℕ → ℕ → List (List ℕ) → Type 0
-Left ks s out₀ out n fault fs = (worst ks (parted s) ≡ max fault (worst (drop n ks) fs)) ×
-    (sets out₀ 0 (values ks (parted s)) ≡ sets out n (values (drop n ks) fs))
+Left ks s out₀ out n fault fs = (worst ks (splitFields s) ≡ max fault (worst (drop n ks) fs)) ×
+    (sets out₀ 0 (values ks (splitFields s)) ≡ sets out n (values (drop n ks) fs))
 
 module _ (ks s : List ℕ) (out₀ out : List ℤ) (n fault : ℕ) where
   pub left-step : (f : List ℕ) (fs : List (List ℕ)) → Left ks s out₀ out n fault (f ∷ fs) → n < length ks → (fieldOf (getD ks n 0) f .fault ≡ 2 → ⊥)
@@ -239,7 +239,7 @@ module _ (ks s : List ℕ) (out₀ out : List ℤ) (n fault : ℕ) where
 
   pub left-whole : Left ks s out₀ out n fault [] → length ks ≤ n → Reading ks s out₀ (numberOf fault) out
   left-whole l h =
-      let e : worst ks (parted s) ≡ fault = omega (arith, l .0, worst-whole ks n h) in
+      let e : worst ks (splitFields s) ≡ fault = omega (arith, l .0, worst-whole ks n h) in
       record {
         number = ap numberOf (sym e);
         places = sym (l .1 ∙ ap (λ (vs : List ℤ). sets out n vs) (values-none (drop n ks)));
@@ -247,7 +247,7 @@ module _ (ks s : List ℕ) (out₀ out : List ℤ) (n fault : ℕ) where
 
   pub left-short : Left ks s out₀ out n fault [] → n < length ks → fault ≤ 2 → Reading ks s out₀ 18 out
   left-short l h b =
-      let e : worst ks (parted s) ≡ 2 = omega (arith, l .0, worst-short ks n h) in
+      let e : worst ks (splitFields s) ≡ 2 = omega (arith, l .0, worst-short ks n h) in
       record {
         number = ap numberOf (sym e);
         places = sym (l .1 ∙ ap (λ (vs : List ℤ). sets out n vs) (values-none (drop n ks)));
