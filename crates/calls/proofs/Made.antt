@@ -27,7 +27,8 @@ use Rattle.params.proofs.Faults.{Numbered, faults-numbered}
 use Rattle.design.specs.declared.Design.{Design}
 use Rattle.design.specs.declared.Gains.{Gains}
 use Rattle.design.specs.Refusal.{floatRefusal, judgeRefusal, Answer as Designed, accepted}
-use Rattle.design.specs.Steps.{spsOf, periodNominal, periodMin, periodMax, integratorMax, ncoStep, agcTarget, registersOf}
+use Rattle.steps.specs.Steps.{periodNominal, periodMin, periodMax, integratorMax, ncoStep, agcTarget}
+use Rattle.design.specs.Registers.{spsOf, registersOf}
 use Rattle.design.specs.Design.{firstOr, goodSps, goodTrim, unlessGood, designFaults, judgeFaults, sheetOfDesign, paramsOf as sheetMade}
 use Rattle.places.specs.Sheet.{paramsAt, sheetNumbers}
 use Rattle.places.specs.Rates.{designKinds, designNumber, designAt, gainsAt}

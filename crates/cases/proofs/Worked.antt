@@ -6,7 +6,8 @@ use Rattle.params.specs.Judge.{goodTaps, goodLength, rowOf, coefficientFaults, 
 use Rattle.params.specs.Judge.{lengthFaults, bankFaults, goodPeriods, fieldFaults, faults, judged}
 use Rattle.params.specs.Offset.{partsOf, offsetOf}
 use Rattle.floats.specs.Whole.{roundAway}
-use Rattle.design.specs.Steps.{hundredths, spsOf, periodNominal, atLeastMin, periodMin, periodMax, integratorMax, ncoStep, agcTarget, registersOf}
+use Rattle.steps.specs.Steps.{hundredths, periodNominal, atLeastMin, periodMin, periodMax, integratorMax, ncoStep, agcTarget}
+use Rattle.design.specs.Registers.{spsOf, registersOf}
 use Rattle.design.specs.Design.{goodSps, goodTrim, designFaults, designOf}
 use Rattle.fixed.specs.Mix.{mixed}
 use Rattle.symbol.specs.Make.{quantised, gainError}

@@ -14,7 +14,7 @@ use Rattle.design.specs.declared.Design.{Design}
 use Rattle.design.specs.declared.DesignRegisters.{DesignRegisters}
 use Rattle.design.specs.declared.Gains.{Gains}
 use Rattle.design.specs.Refusal.{DesignRefusal, floatRefusal, judgeRefusal, Answer, accepted, refused}
-use Rattle.design.specs.Steps.{spsOf, registersOf}
+use Rattle.design.specs.Registers.{spsOf, registersOf}
 use Rattle.design.specs.Design.{firstOr, goodSps, goodTrim, designFaults, designOf, paramsOf, judgeFaults, judgedOf, sheetOfDesign}
 
 -- ---- a design's answer, by the first of its tests that fails

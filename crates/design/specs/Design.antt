@@ -11,7 +11,8 @@ use Rattle.design.specs.declared.Design.{Design}
 use Rattle.design.specs.declared.DesignRegisters.{DesignRegisters}
 use Rattle.design.specs.declared.Gains.{Gains}
 use Rattle.design.specs.Refusal.{DesignRefusal, floatRefusal, judgeRefusal, Answer, accepted, refused}
-use Rattle.design.specs.Steps.{twoTo, leastSps, spsOf, registersOf}
+use Rattle.steps.specs.Steps.{twoTo, leastSps}
+use Rattle.design.specs.Registers.{spsOf, registersOf}
 
 -- The first of some faults, or what was asked for.
 abbrev pub firstOr : {A : Type 0} → List DesignRefusal → A → Answer A

@@ -1,6 +1,4 @@
 // Designs: from rates to the registers of a sheet, and to a whole sheet that is judged.
-mod steps;
-
 use params::ParamError;
 use params::Params;
 use params::Verdict;
@@ -8,7 +6,7 @@ ghost use mathlib.Core.Path.{_≡_};
 ghost use mathlib.Core.Bool.{_&&_};
 ghost use lib.Dec.{leb};
 ghost use Rattle.design.specs.Refusal.{designRefusal, sheetRefusal, designAnswer, sheetAnswer};
-ghost use Rattle.design.specs.Steps.{spsOf, registersOf};
+ghost use Rattle.design.specs.Registers.{spsOf, registersOf};
 ghost use Rattle.design.specs.Design.{goodSps, goodTrim, designOf, paramsOf, judgedOf, sheetOfDesign};
 
 // What a receiver is built for (RULES 6.3).

@@ -1,4 +1,3 @@
--- Laws of lists, of tests, of reading and of floats by their bits that the proofs share.
+-- Laws of tests and of floats by their bits that the proofs share.
 mod Laws
-mod Reading
 mod Patterns

@@ -8,7 +8,7 @@ use lib.IntN.{ℤ, pos, negsuc}
 use Rattle.params.specs.declared.ParamError.{ParamError}
 use Rattle.params.specs.declared.ParamError.the-variants.{Taps, BankLength, Coefficient, CoefficientSum, DetectorTaps, PeriodBounds, Range, AgcShift}
 use Rattle.replay.specs.declared.answer.Answer.{Answer}
-use Rattle.replay.specs.Rows.{signedBits}
+use Rattle.rows.specs.Rows.{signedBits}
 
 -- A number that carries nothing, one value, or three.
 abbrev pub carriesNone : ℕ → Answer

@@ -1,4 +1,3 @@
--- How the replay programs read a number, what a row's numbers stand for, and what their counts mean.
-pub mod Rows
+-- What a row's numbers stand for.
 pub mod Answers
 pub mod Banks

@@ -1,9 +1,8 @@
 // Refusals in the numbers that a row has for them: a refusal's number (docs/REFUSALS.md) and what it carries, or 0.
-use crate::rows;
 use params::ParamError;
 ghost use mathlib.Core.Path.{_≡_};
 ghost use lib.IntN.{pos};
-ghost use Rattle.replay.specs.Rows.{signedBits};
+ghost use Rattle.rows.specs.Rows.{signedBits};
 ghost use Rattle.replay.specs.Answers.{carriesNone, carriesOne, carriesThree, ofError, isAnswer};
 
 // A refusal, as so many numbers of the four. What it does not carry is 0.

@@ -4,8 +4,7 @@ use crate::sheet::Sheet;
 use crate::states;
 use fixed::Processed;
 use places::ReadSheet;
-use replay::Tally;
-use replay::rows;
+use rows::Tally;
 use state::Frontend;
 
 // What the rows so far leave: how many answers were compared, and what is in force.

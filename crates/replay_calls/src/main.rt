@@ -9,8 +9,8 @@ mod states;
 
 use calls::Replay;
 use libc::STDOUT_FILENO;
-use replay::Cursor;
-use replay::Tally;
+use rows::Cursor;
+use rows::Tally;
 
 struct Progress {
     cursor: Cursor,

@@ -2,7 +2,6 @@
 // waiting errors. Both as they are stored.
 use registers::Pending;
 use registers::Registers;
-use replay::rows;
 use state::Frontend;
 use state::Pair;
 ghost use Prim.Native.Nat.{_<_};

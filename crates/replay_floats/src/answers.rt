@@ -7,7 +7,6 @@ use design::SheetVerdict;
 use params::Params;
 use replay::answer;
 use replay::bits;
-use replay::rows;
 
 pub(crate) fn float_of(number: i64) -> f64 {
     bits::f64_from_bits(rows::u64_of(number))

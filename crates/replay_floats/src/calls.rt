@@ -2,9 +2,8 @@
 use crate::answers;
 use design::Design;
 use design::Gains;
-use replay::Tally;
 use replay::banks::Banks;
-use replay::rows;
+use rows::Tally;
 
 // What the rows so far leave: how many answers were compared, and what is in force.
 pub(crate) struct Replay {

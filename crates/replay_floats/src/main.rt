@@ -7,8 +7,8 @@ mod calls;
 
 use calls::Replay;
 use libc::STDOUT_FILENO;
-use replay::Cursor;
-use replay::Tally;
+use rows::Cursor;
+use rows::Tally;
 
 struct Progress {
     cursor: Cursor,

@@ -59,7 +59,7 @@ impl Output {
             left = left.with_room(out);
             let from = PLACES * n;
             let to = from + PLACES;
-            left.waiting = text::put_row(&places[from..to], out, left.waiting);
+            left.waiting = print::put_row(&places[from..to], out, left.waiting);
             n += 1;
         }
         left
@@ -68,14 +68,14 @@ impl Output {
     // Prints the end line.
     pub(crate) fn with_end(self, samples: u64, symbols: u64, t: i64, out: &mut [u8]) -> Output {
         let mut left = self.with_room(out);
-        left.waiting = text::put_end(samples, symbols, t, out, left.waiting);
+        left.waiting = print::put_end(samples, symbols, t, out, left.waiting);
         left
     }
 
     // Prints the line that stands in its place.
     pub(crate) fn with_refusal(self, number: u32, line: u64, out: &mut [u8]) -> Output {
         let mut left = self.with_room(out);
-        left.waiting = text::put_refusal(number, line, out, left.waiting);
+        left.waiting = print::put_refusal(number, line, out, left.waiting);
         left
     }
 }

@@ -8,7 +8,8 @@ use lib.IntN.{ℤ, pos, negℤ}
 use Rattle.text.specs.declared.Digits.{Digits}
 use Rattle.text.specs.declared.Field.{Field}
 use Rattle.kinds.specs.Kinds.{leastOf, mostOf}
-use Rattle.text.specs.Number.{Said, none, some, numeral, magnitudeOf}
+use Rattle.text.specs.Number.{Said, none, some, numeral}
+use Rattle.print.specs.Number.{magnitudeOf}
 
 -- How far a type reaches below and above zero.
 abbrev pub downOf : ℕ → ℕ

@@ -4,7 +4,7 @@ use Prim.Native.Nat.{ℕ, _≤_, _<_}
 use mathlib.Core.Path.{_≡_}
 use mathlib.Core.List.{List}
 use lib.IntN.{ℤ, pos, negsuc}
-use Rattle.text.specs.Number.{textOf}
+use Rattle.print.specs.Number.{textOf}
 use Rattle.text.specs.Field.{fieldIn, holds}
 
 -- An integer from `down` below zero to `up`.

@@ -1,6 +1,5 @@
--- The text of the symbol program: numbers, fields, lines read, lines printed, and that reading and printing a number are inverse.
+-- The text of the symbol program: numbers, fields, lines read, and that reading and printing a number are inverse.
 pub mod Number
 pub mod Field
 pub mod Line
-pub mod Print
 pub mod Inverse

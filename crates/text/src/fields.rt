@@ -7,7 +7,6 @@ ghost use Rattle.text.specs.Number.{none, numeral};
 ghost use Rattle.text.specs.Field.{keptDigits, downOf, upOf, aboveZero, belowZero, fieldOf};
 use crate::Digits;
 use crate::Field;
-use crate::print;
 
 fn wide(x: u8) -> u64
     ensures { λ r. ⌜ r ≡ x ⌝ }

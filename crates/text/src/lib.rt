@@ -1,13 +1,9 @@
-// The text of the symbol program, on lent bytes: where a line ends, the numbers that it holds, and how symbols and answers are printed.
+// The text that the symbol program reads, on lent bytes: where a line ends, and the numbers that it holds.
 mod fields;
 mod lines;
-mod print;
 
 pub use lines::line_end;
 pub use lines::read_line;
-pub use print::put_end;
-pub use print::put_refusal;
-pub use print::put_row;
 
 // The most bytes that a line may have before its line feed.
 pub const LONGEST: usize = 1024;

@@ -5,8 +5,8 @@ use lib.ListN.{length}
 use borrow.Author.Needs.{needs}
 use Rattle.replay_leaves.proofs.main.Statement.{statement}
 use Rattle.replay_leaves.proofs.main.Tie as tie
-use Rattle.replay.proofs.Cursor.new.Reads as Cursor-new-reads
-use Rattle.replay.proofs.Tally.new.Reads as Tally-new-reads
+use Rattle.rows.proofs.Cursor.new.Reads as Cursor-new-reads
+use Rattle.rows.proofs.Tally.new.Reads as Tally-new-reads
 
 abbrev Inv-loop : tie.InvT-loop
 Inv-loop wheel bytes₀ row₀ progress₀ turns₀ n₀ bytes row progress turns n = length bytes ≡ 65536

@@ -7,7 +7,7 @@ use borrow.Author.Needs.{needs}
 use borrow.Author.Tests.{not-true, not-false}
 use Rattle.params.specs.Judge.{goodTaps}
 use Rattle.design.specs.Refusal.{accepted}
-use Rattle.design.specs.Steps.{spsOf, registersOf}
+use Rattle.design.specs.Registers.{spsOf, registersOf}
 use Rattle.design.specs.Design.{goodSps}
 use Rattle.design.proofs.Answers.{at-sps, at-taps, at-bits, Three, at-trim, at-end}
 use Rattle.design.proofs.Design.registers.Statement.{statement}

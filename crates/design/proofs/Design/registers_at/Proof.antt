@@ -4,7 +4,7 @@ use mathlib.Core.Path.{_∙_}
 use mir.Syntax.{w32}
 use borrow.Author.Needs.{needs}
 use Rattle.arith.proofs.Bits.{held}
-use Rattle.design.specs.Steps.{registersOf}
+use Rattle.design.specs.Registers.{registersOf}
 use Rattle.design.proofs.Design.registers_at.Statement.{statement}
 use Rattle.design.proofs.Design.registers_at.Tie as tie
 

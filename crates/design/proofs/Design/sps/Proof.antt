@@ -1,7 +1,7 @@
 -- `design::Design::sps` meets its contract: it is the definition's quotient.
 -- Both round it once.
 use mathlib.Core.Path.{refl}
-use Rattle.design.specs.Steps.{spsOf}
+use Rattle.design.specs.Registers.{spsOf}
 use Rattle.design.proofs.Design.sps.Statement.{statement}
 use Rattle.design.proofs.Design.sps.Tie as tie
 

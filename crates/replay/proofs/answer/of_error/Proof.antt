@@ -12,7 +12,7 @@ use Rattle.params.specs.declared.ParamError.{ParamError}
 use Rattle.params.specs.declared.ParamError.the-variants.{Taps, BankLength, Coefficient, CoefficientSum, DetectorTaps, PeriodBounds, Range, AgcShift}
 use Rattle.params.specs.Refusal.{errorRefusal}
 use Rattle.params.proofs.ParamError.{the-type}
-use Rattle.replay.specs.Rows.{signedBits}
+use Rattle.rows.specs.Rows.{signedBits}
 use Rattle.replay.specs.Answers.{carriesNone, carriesOne, carriesThree, ofError}
 use Rattle.replay.proofs.answer.of_error.Statement.{statement}
 use Rattle.replay.proofs.answer.of_error.Tie as tie

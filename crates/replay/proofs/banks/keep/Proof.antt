@@ -7,7 +7,7 @@ use lib.IntN.{ℤ}
 use lib.ListN.{length, take}
 use lib.Seq.{sets, length-take-le}
 use Rattle.arith.specs.Arith.{narrowI32}
-use Rattle.replay.proofs.Laws.{take-least}
+use Rattle.rows.proofs.Parts.{take-least}
 use borrow.Author.Needs.{needs}
 use Rattle.replay.proofs.banks.keep.Statement.{statement}
 use Rattle.replay.proofs.banks.keep.Tie as tie

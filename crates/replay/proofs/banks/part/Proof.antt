@@ -6,7 +6,7 @@ use native.Mathlib.Omega.{arith}
 use lib.IntN.{ℤ}
 use lib.ListN.{length, take, drop, length-drop}
 use borrow.Author.Needs.{needs}
-use Rattle.replay.proofs.Laws.{drop-least, take-least}
+use Rattle.rows.proofs.Parts.{drop-least, take-least}
 use Rattle.replay.proofs.banks.part.Statement.{statement}
 use Rattle.replay.proofs.banks.part.Tie as tie
 

@@ -3,7 +3,7 @@ use mathlib.Core.Path.{ap, _∙_}
 use mir.Syntax.{w64}
 use borrow.Author.Needs.{needs}
 use Rattle.arith.proofs.Bits.{held}
-use Rattle.text.specs.Number.{magnitudeOf}
+use Rattle.print.specs.Number.{magnitudeOf}
 use Rattle.text.proofs.fields.down_of.Statement.{statement}
 use Rattle.text.proofs.fields.down_of.Tie as tie
 
