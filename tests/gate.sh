@@ -6,6 +6,9 @@ set -u
 cd "$(dirname "$0")/.." || exit 2
 : "${RT:=rt}"
 passed=0
+# rt waits for the slowest of as many checks as it runs at once: with four of them, two processors are hardly ever idle.
+: "${RT_JOBS:=4}"
+export RT_JOBS
 
 # failed STATUS TEXT: ends the gate with one failure
 failed() {
