@@ -59,7 +59,8 @@ bindings: archive
 	@target/header
 	@if command -v $(firstword $(CXX)) >/dev/null; then \
 		echo "The same from C++:"; \
-		$(CXX) -x c++ -std=c++11 -O2 -Wall -Wextra -Wpedantic -Werror -Iinclude -o target/header tests/header.c -x none target/staticlib/libarchive.a && target/header; \
+		$(CXX) -x c++ -std=c++11 -O2 -Wall -Wextra -Wpedantic -Werror -Iinclude -o target/header tests/header.c -x none \
+			target/staticlib/libarchive.a && target/header; \
 	else echo "$(CXX), a C++ compiler, is not here: from C++ nothing was tested"; fi
 	@echo "The tests of bindings/rust:"
 	@cd bindings/rust && HUNTELM_ARCHIVE='$(CURDIR)/target/staticlib' cargo test --offline --quiet
@@ -68,4 +69,5 @@ clean:
 	rm -rf target oracle/target oracle/archive/target bench/target bindings/rust/target
 
 kit:
-	@command -v $(RT) >/dev/null || { echo "rt, the command of the Rattle kit, is not on the PATH. Install the kit, or say where it is: make RT=/path/to/rt"; exit 1; }
+	@command -v $(RT) >/dev/null || \
+		{ echo "rt, the command of the Rattle kit, is not on the PATH. Install the kit, or say where it is: make RT=/path/to/rt"; exit 1; }

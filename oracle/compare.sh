@@ -87,12 +87,14 @@ done
 # Floats: the samples of one in 16 of all 2^32 f32, and of all near a tie, a whole number or an end of what an f32 can be; STEP=1 takes every f32.
 replayed "float samples, one f32 in $STEP and all that stand out" replay_floats samples "$STEP"
 
-# Designs at every corner, strange ones and ordinary ones, wherever isdb-rs answers with registers or a refusal of RULES 6.3; and designs that are judged with banks and gains.
+# Designs at every corner, strange ones and ordinary ones, wherever isdb-rs answers with registers or a refusal of RULES 6.3; and designs that
+# are judged with banks and gains.
 replayed "registers of designs" replay_floats floats designs 1 $((52000 * SCALE))
 replayed "sheets of designs, judged" replay_floats floats sheets 1 $((4000 * SCALE))
 replayed "sheets of designs, judged, few taps" replay_floats floats small 1 $((10000 * SCALE))
 
-# The symbol program: planned inputs with every wrong line and number in every part, and random ones, most of them spoiled. The driver runs it and reads what it prints.
+# The symbol program: planned inputs with every wrong line and number in every part, and random ones, most of them spoiled. The driver runs it and reads
+# what it prints.
 rm -f "$work/differs"
 told "the symbol program" $checked against target/bin/symbols 1 $((5000 * SCALE)) "$work/differs"
 

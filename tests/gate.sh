@@ -1,7 +1,8 @@
 #!/bin/sh
 # The gate, run as `make test`: the layout of all files; `rt ci`, which proves everything from nothing, tries the must-fail edits and runs the programs; then
-# the cases of tests/symbols.sh, on the symbol program that rt ci has built. What rt ci prints is passed on as it comes, and its last line, 'N passed, 0 failed',
-# is held back until the cases have passed. So the last line is about all of it: where something fails it counts a failure, and the status is not 0.
+# the cases of tests/symbols.sh, on the symbol program that rt ci has built. What rt ci prints is passed on as it comes, and its last line,
+# 'N passed, 0 failed', is held back until the cases have passed. So the last line is about all of it: where something fails it counts a failure, and the
+# status is not 0.
 set -u
 cd "$(dirname "$0")/.." || exit 2
 : "${RT:=rt}"

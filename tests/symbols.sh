@@ -90,8 +90,9 @@ expect 'no pairs' 'end,0,0,0'
 # ---- 18: wrong form or another number of fields, at the first and the last line of each part
 
 for line in 1 2 65 66 129 130 193; do
-    for text in '' 1 1,2,3 1,2,3,4,5 1,2,3,4, ,1,2,3 1,,2,3 01,2,3,4 1,2,3,00 -0,2,3,4 1,2,3,-0 -01,2,3,4 +1,2,3,4 ' 1,2,3,4' '1, 2,3,4' '1,2,3,4 ' '"1",2,3,4' \
-        1.0,2,3,4 1e3,2,3,4 0x1,2,3,4 -,2,3,4 --1,2,3,4 1-,2,3,4 '1;2;3;4' a,b,c,d é,2,3,4 '1,2,3,٣' "1,2,3,4$(printf '\r')" "1,2,3,4$(printf '\t')"; do
+    for text in '' 1 1,2,3 1,2,3,4,5 1,2,3,4, ,1,2,3 1,,2,3 01,2,3,4 1,2,3,00 -0,2,3,4 1,2,3,-0 -01,2,3,4 +1,2,3,4 ' 1,2,3,4' '1, 2,3,4' '1,2,3,4 ' \
+        '"1",2,3,4' 1.0,2,3,4 1e3,2,3,4 0x1,2,3,4 -,2,3,4 --1,2,3,4 1-,2,3,4 '1;2;3;4' a,b,c,d é,2,3,4 '1,2,3,٣' \
+        "1,2,3,4$(printf '\r')" "1,2,3,4$(printf '\t')"; do
         refused 18 $line "$text"
     done
 done
@@ -257,7 +258,8 @@ for part in '1 32 1,1,1,1,1,1,1,1,1,1,1,1,1,1,1,1,' '2 6 1,1,1,' '193 6 1,1,1,' 
 done
 # A line that goes on for 20 MB is refused like any that is too long. It has an end here, so that a program that kept it could not fill the disk.
 for line in 1 2 194; do
-    { head -n $((line - 1)) "$dir/whole"; dd if=/dev/zero bs=100000 count=200 2>/dev/null | tr '\000' 1; } | "$program" 2>&1 | head -n 2 | cut -c 1-80 >"$dir/got"
+    { head -n $((line - 1)) "$dir/whole"; dd if=/dev/zero bs=100000 count=200 2>/dev/null | tr '\000' 1; } | "$program" 2>&1 |
+        head -n 2 | cut -c 1-80 >"$dir/got"
     echo "refused,18,$line" >"$dir/want"
     same "a line of 20 MB at line $line" want
 done
