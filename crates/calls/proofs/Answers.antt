@@ -13,8 +13,8 @@ use mir.Facts.{toZ-ofZ}
 use borrow.Author.Tests.{eq-eqb, ne-eqb, eqb-true, eqb-false}
 use Rattle.arith.proofs.Magnitude.{abs-neg}
 use Rattle.arith.proofs.Bits.{sfit, whole}
-use Rattle.params.specs.Refusal.{Refusal}
-use Rattle.params.specs.Judge.{Sheet, firstOf, faults, judged}
+use Rattle.params.specs.Refusal.{Refusal, firstOf}
+use Rattle.params.specs.Judge.{Sheet, faults, judged}
 use Rattle.params.proofs.Faults.{Numbered, faults-numbered, first-none}
 use Rattle.params.proofs.Accepted.{no-faults as accepted-sheet}
 use Rattle.state.specs.declared.Pair.{Pair}

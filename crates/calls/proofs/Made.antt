@@ -21,8 +21,8 @@ use Rattle.kinds.specs.Kinds.{at, u8, u32, i32, isKind}
 use Rattle.kinds.proofs.OfKind.{own-u8, own-u32, u8-is, u32-is, i32-is}
 use Rattle.kinds.proofs.Readable.{readable-at}
 use Rattle.params.specs.declared.Params.{Params}
-use Rattle.params.specs.Refusal.{Refusal}
-use Rattle.params.specs.Judge.{goodTaps, sheetOf, firstOf, faults, judged}
+use Rattle.params.specs.Refusal.{Refusal, firstOf}
+use Rattle.params.specs.Judge.{goodTaps, sheetOf, faults, judged}
 use Rattle.params.proofs.Faults.{Numbered, faults-numbered}
 use Rattle.design.specs.declared.Design.{Design}
 use Rattle.design.specs.declared.Gains.{Gains}

@@ -8,8 +8,8 @@ use lib.Dec.{leb}
 use lib.IntN.{ℤ}
 use lib.Ieee.{Float}
 use Rattle.params.specs.declared.Params.{Params}
-use Rattle.params.specs.Refusal.{Refusal}
-use Rattle.params.specs.Judge.{goodTaps, sheetOf, firstOf, faults, judged}
+use Rattle.params.specs.Refusal.{Refusal, firstOf}
+use Rattle.params.specs.Judge.{goodTaps, sheetOf, faults, judged}
 use Rattle.design.specs.declared.Design.{Design}
 use Rattle.design.specs.declared.DesignRegisters.{DesignRegisters}
 use Rattle.design.specs.declared.Gains.{Gains}

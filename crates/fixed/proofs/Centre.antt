@@ -9,7 +9,7 @@ use lib.ListN.{length, getD, take, drop, length-drop, take-append-drop}
 use lib.Seq.{length-take-le, getD-take, getD-drop}
 use lib.IntN.{ℤ, pos, negsuc, natAbs, _+ℤ_, _*ℤ_, zero-*ℤ, +ℤ-idl, +ℤ-idr}
 use borrow.Author.Tests.{eqb-true}
-use Rattle.params.specs.Judge.{magnitudes, zeroOutside}
+use Rattle.params.specs.Banks.{magnitudes, zeroOutside}
 use Rattle.params.proofs.Rows.{magnitudes-append, centred}
 use Rattle.fixed.specs.Filter.{sumTo}
 use Rattle.fixed.specs.Inside.{lowered, sumOver, sumsOver, Row, DetectorRow}

@@ -11,7 +11,7 @@ use lib.IntN.{ℤ, pos, negsuc, natAbs, _+ℤ_, _-ℤ_, _*ℤ_, zero-*ℤ, *ℤ-
 use Rattle.arith.proofs.Magnitude.{abs-add}
 use Rattle.arith.proofs.Order.{P, N, abs-pn, add-pn, minus-pn, eq-pn}
 use Rattle.arith.proofs.Products.{add-mul, mul-minus}
-use Rattle.params.specs.Judge.{magnitudes}
+use Rattle.params.specs.Banks.{magnitudes}
 use Rattle.params.proofs.Rows.{magnitudes-append, magnitudes-suc}
 use Rattle.fixed.specs.Filter.{sumTo}
 use Rattle.fixed.specs.Inside.{sumOver, sumsOver}

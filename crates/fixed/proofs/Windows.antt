@@ -11,7 +11,7 @@ use lib.ListN.{length, getD, take, drop, length-drop}
 use lib.Seq.{length-take-le, getD-take, getD-drop}
 use lib.IntN.{ℤ, pos, _*ℤ_}
 use borrow.Author.Tests.{ltb-true, ltb-false}
-use Rattle.params.specs.Judge.{rowOf, rowsFaults, rowsOutside}
+use Rattle.params.specs.Banks.{rowOf, rowsFaults, rowsOutside}
 use Rattle.params.proofs.RowsOf.{row-long, row-part, row-light, row-centred}
 use Rattle.state.specs.declared.Pair.{Pair}
 use Rattle.fixed.specs.Line.{nthNewest}

@@ -6,8 +6,8 @@ use mathlib.Core.List.{List, [], _∷_, _++_}
 use lib.Dec.{eqb}
 use lib.ListN.{length, drop}
 use lib.IntN.{ℤ}
-use Rattle.params.specs.Refusal.{Refusal, nothing}
-use Rattle.params.specs.Judge.{Sheet, firstOf}
+use Rattle.params.specs.Refusal.{Refusal, nothing, firstOf}
+use Rattle.params.specs.Judge.{Sheet}
 use Rattle.symbol.specs.declared.Symbol.{Symbol}
 use Rattle.symbol.specs.Places.{placesOf}
 use Rattle.state.specs.declared.Pair.{Pair}

@@ -4,7 +4,8 @@ use Prim.Native.Nat.{ℕ, zero, suc}
 use mathlib.Core.List.{List, [], _∷_}
 use lib.ListN.{getD}
 use lib.IntN.{ℤ, pos, _+ℤ_, _*ℤ_}
-use Rattle.params.specs.Judge.{Sheet, rowOf}
+use Rattle.params.specs.Banks.{rowOf}
+use Rattle.params.specs.Judge.{Sheet}
 use Rattle.symbol.specs.declared.Sums.{Sums}
 use Rattle.state.specs.declared.Pair.{Pair}
 use Rattle.fixed.specs.Line.{nthNewest}

@@ -8,7 +8,8 @@ use lib.Dec.{ltb}
 use lib.ListN.{length, getD, drop}
 use lib.IntN.{ℤ, pos, _-ℤ_, _*ℤ_}
 use Rattle.params.specs.Refusal.{nothing}
-use Rattle.params.specs.Judge.{Sheet, magnitudes, zeroOutside, judged}
+use Rattle.params.specs.Banks.{magnitudes, zeroOutside}
+use Rattle.params.specs.Judge.{Sheet, judged}
 use Rattle.registers.specs.declared.Pending.{Pending}
 use Rattle.registers.specs.declared.Registers.{Registers}
 use Rattle.symbol.specs.declared.Sums.{Sums}

@@ -10,8 +10,8 @@ use lib.IntN.{ℤ, pos, negsuc}
 use borrow.Author.Tests.{ltb-true, leb-true, eqb-true}
 use Rattle.params.specs.declared.Params.{Params}
 use Rattle.params.specs.Refusal.{Refusal, refusal, nothing}
-use Rattle.params.specs.Judge.{Sheet, goodTaps, goodLength, lengthFaults, rowsFaults, bankFaults, rowsOutside, goodPeriods, fieldFault, fieldFaults}
-use Rattle.params.specs.Judge.{faults, judged}
+use Rattle.params.specs.Banks.{rowsFaults, bankFaults, rowsOutside}
+use Rattle.params.specs.Judge.{Sheet, goodTaps, goodLength, lengthFaults, goodPeriods, fieldFault, fieldFaults, faults, judged}
 use Rattle.arith.proofs.Both.{and-left, and-right}
 use Rattle.params.proofs.Faults.{kept, none-at, none-left, none-right, first-none, faults-numbered}
 

@@ -13,8 +13,9 @@ use Rattle.params.specs.declared.ParamError.{ParamError}
 use Rattle.params.specs.declared.ParamError.the-variants.{Taps, BankLength, Coefficient, CoefficientSum, DetectorTaps, PeriodBounds, Range, AgcShift}
 use Rattle.params.specs.declared.Verdict.{Verdict}
 use Rattle.params.specs.declared.Verdict.the-variants.{Refused}
-use Rattle.params.specs.Refusal.{Refusal, nothing, errorRefusal, verdictRefusal}
-use Rattle.params.specs.Judge.{Sheet, unless, firstOf, lengthFaults, coefficientFaults, rowFaults, rowsFaults, bankFaults, fieldFaults, faults}
+use Rattle.params.specs.Refusal.{Refusal, nothing, errorRefusal, verdictRefusal, unless, firstOf}
+use Rattle.params.specs.Banks.{coefficientFaults, rowFaults, rowsFaults, bankFaults}
+use Rattle.params.specs.Judge.{Sheet, lengthFaults, fieldFaults, faults}
 
 abbrev pub Numbered : List Refusal → Type 0
 Numbered [] = Unit {0}

@@ -10,10 +10,10 @@ use lib.ListN.{length, getD, take, drop, length-drop, take-append-drop}
 use lib.Seq.{take-suc, split-at, length-take-le}
 use lib.IntN.{ℤ, pos, negsuc, natAbs}
 use borrow.Author.Tests.{le-leb, lt-leb, lt-ltb, le-ltb, eq-eqb, ne-eqb, eqb-true, eqb-false}
-use Rattle.params.specs.Refusal.{Refusal, refusal}
+use Rattle.params.specs.Refusal.{Refusal, refusal, unless, firstOf}
+use Rattle.params.specs.Banks.{coefficientFaults, magnitudes, rowFaults, detectorPlace, zeroOutside}
 use Rattle.arith.specs.Arith.{within}
 pub use Rattle.arith.proofs.Both.{and-left, and-right}
-use Rattle.params.specs.Judge.{unless, firstOf, coefficientFaults, magnitudes, rowFaults, detectorPlace, zeroOutside}
 
 -- ---- the sum of the magnitudes
 

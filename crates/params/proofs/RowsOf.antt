@@ -10,7 +10,8 @@ use lib.ListN.{length, take, drop, length-drop}
 use lib.Seq.{length-take-le}
 use lib.IntN.{ℤ}
 use borrow.Author.Tests.{leb-true}
-use Rattle.params.specs.Judge.{firstOf, rowOf, coefficientFaults, magnitudes, rowFaults, rowsFaults, zeroOutside, rowsOutside}
+use Rattle.params.specs.Refusal.{firstOf}
+use Rattle.params.specs.Banks.{rowOf, coefficientFaults, magnitudes, rowFaults, rowsFaults, zeroOutside, rowsOutside}
 use Rattle.params.proofs.Faults.{kept, none-left, none-right, first-append}
 use Rattle.params.proofs.Rows.{and-assoc, and-left, and-right}
 

@@ -1,4 +1,5 @@
--- What a reader has to believe of the sheet: the refusals, judging, and the offset.
+-- What a reader has to believe of the sheet: the refusals, the banks, judging, and the offset.
 pub mod Refusal
+pub mod Banks
 pub mod Judge
-pub mod Offset
+pub mod Offsets

@@ -1,5 +1,6 @@
 -- Refusals, by their numbers. Every definition answers with one of these, and every contract reads an answer's enum through the maps below.
 use Prim.Native.Nat.{ℕ}
+use mathlib.Core.Bool.{Bool, cond}
 use mathlib.Core.List.{List, [], _∷_}
 use lib.IntN.{ℤ, pos}
 use Rattle.params.specs.declared.ParamError.{ParamError}
@@ -33,3 +34,14 @@ errorRefusal AgcShift = refusal 8 []
 abbrev pub verdictRefusal : Verdict → Refusal
 verdictRefusal Accepted = nothing
 verdictRefusal (Refused e) = errorRefusal e
+
+-- ---- lists of faults
+
+-- A fault where a rule is broken, and none where it is kept.
+abbrev pub unless : Bool → Refusal → List Refusal
+unless kept r = cond kept [] (r ∷ [])
+
+-- The first of some faults, or nothing.
+abbrev pub firstOf : List Refusal → Refusal
+firstOf [] = nothing
+firstOf (r ∷ rs) = r

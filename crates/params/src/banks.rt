@@ -3,16 +3,28 @@
 // A sheet is judged at every call, so an accepted bank costs one pass over its rows: where a row's magnitudes sum to 131071 at most, each of its
 // coefficients fits 18 bits too, and where they sum to what the detector's own places sum to, the others are zero. What exactly is wrong with a row is
 // looked for only in one that is refused.
+use crate::Detector;
 use crate::ParamError;
 use crate::Verdict;
 ghost use mathlib.Core.Path.{_≡_};
 ghost use mathlib.Core.Bool.{true, _&&_};
-ghost use Prim.Native.Nat.{_+_, _*_, _%_, _^_, _≤_, _<_};
+ghost use Prim.Native.Nat.{_+_, _-_, _*_, _/_, _%_, _^_, _≤_, _<_, min};
 ghost use lib.Dec.{leb};
 ghost use lib.ListN.{length};
 ghost use lib.IntN.{natAbs};
-ghost use Rattle.params.specs.Refusal.{errorRefusal, verdictRefusal, nothing};
-ghost use Rattle.params.specs.Judge.{firstOf, magnitudes, rowFaults, rowsFaults, zeroOutside, rowsOutside, bankFaults};
+ghost use Rattle.params.specs.Refusal.{errorRefusal, verdictRefusal, nothing, firstOf};
+ghost use Rattle.params.specs.Banks.{magnitudes, rowFaults, rowsFaults, zeroOutside, rowsOutside, bankFaults};
+
+// The middle of a row.
+pub fn detector_of(taps: usize) -> Detector
+    ensures { λ r. ⌜ (r .low ≡ (taps - 8) / 2) × (r .high ≡ r .low + min 8 taps) ⌝ }
+{
+    if taps < 8 {
+        return Detector { low: 0, high: taps };
+    }
+    let low = (taps - 8) / 2;
+    Detector { low, high: low + 8 }
+}
 
 // How far c is from 0: -2^31 has no counterpart among the i32, so its last step is made unsigned.
 fn magnitude(c: i32) -> u32
@@ -109,7 +121,7 @@ fn is_centred(row: &[i32], sum: u64) -> bool
     if row.len() <= 8 {
         return true;
     }
-    let d = crate::detector_of(row.len());
+    let d = detector_of(row.len());
     let low = d.low;
     let high = d.high;
     magnitude_sum(&row[low..high]) == sum

@@ -7,7 +7,7 @@ use lib.Dec.{ltb, leb}
 use lib.ListN.{length}
 use Rattle.text.specs.declared.LineEnd.{LineEnd}
 use Rattle.text.specs.declared.LineEnd.the-variants.{After, TooLong, Open}
-use Rattle.text.specs.Line.{lineEndOf}
+use Rattle.text.specs.Lines.{lineEndOf}
 use Rattle.recording.specs.declared.Next.{Next}
 use Rattle.recording.specs.declared.Next.the-variants.{Line, More, End, Refused}
 

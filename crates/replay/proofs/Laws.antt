@@ -8,7 +8,7 @@ use mir.Syntax.{w64}
 use mir.Val.{SFits, toZ, ofZ}
 use mir.Facts.{toZ-ofZ}
 use borrow.Author.Tests.{eqb-true, eq-eqb}
-use Rattle.replay.specs.Answers.{eqZ}
+use Rattle.replay.specs.Answer.{eqZ}
 
 -- an integer is itself, by the test too
 eqZ-refl : (a : ℤ) → eqZ a a ≡ true

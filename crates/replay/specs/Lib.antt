@@ -1,3 +1,3 @@
 -- What a row's numbers stand for.
-pub mod Answers
+pub mod Answer
 pub mod Banks

@@ -3,7 +3,7 @@ use params::ParamError;
 ghost use mathlib.Core.Path.{_≡_};
 ghost use lib.IntN.{pos};
 ghost use Rattle.rows.specs.Rows.{signedBits};
-ghost use Rattle.replay.specs.Answers.{carriesNone, carriesOne, carriesThree, ofError, isAnswer};
+ghost use Rattle.replay.specs.Answer.{carriesNone, carriesOne, carriesThree, ofError, isAnswer};
 
 // A refusal, as so many numbers of the four. What it does not carry is 0.
 pub struct Answer {

@@ -14,8 +14,8 @@ use Rattle.params.specs.declared.Params.{Params as Fields}
 use Rattle.params.specs.declared.ParamError.{ParamError}
 use Rattle.params.specs.declared.Verdict.{Verdict}
 use Rattle.params.specs.declared.Verdict.the-variants.{Accepted as SheetAccepted, Refused}
-use Rattle.params.specs.Refusal.{Refusal, refusal, nothing, errorRefusal, verdictRefusal}
-use Rattle.params.specs.Judge.{Sheet, unless, firstOf, faults, judged}
+use Rattle.params.specs.Refusal.{Refusal, refusal, nothing, errorRefusal, verdictRefusal, unless, firstOf}
+use Rattle.params.specs.Judge.{Sheet, faults, judged}
 use Rattle.params.proofs.Faults.{Numbered, numbered-append, numbered-unless, first-none, none-first, first-append, error-numbered, refused, faults-numbered}
 use Rattle.params.proofs.Faults.{kept, none-at, none-left, none-right}
 use Rattle.params.proofs.Accepted.{Accepted as AcceptedSheet, no-faults}

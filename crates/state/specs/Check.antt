@@ -7,9 +7,9 @@ use lib.Dec.{eqb, leb, ltb}
 use lib.IntN.{pos, negℤ}
 use lib.Signed.{leZ, ltZ}
 use Rattle.params.specs.declared.Params.{Params}
-use Rattle.params.specs.Refusal.{Refusal, refusal, nothing, errorRefusal}
+use Rattle.params.specs.Refusal.{Refusal, refusal, nothing, errorRefusal, unless}
+use Rattle.params.specs.Judge.{Sheet, faults}
 use Rattle.arith.specs.Arith.{within}
-use Rattle.params.specs.Judge.{Sheet, unless, faults}
 use Rattle.registers.specs.declared.Registers.{Registers}
 use Rattle.registers.specs.Correct.{integratorEnd}
 use Rattle.registers.specs.Step.{loopDelay}

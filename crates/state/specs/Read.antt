@@ -3,8 +3,8 @@
 use Prim.Native.Nat.{ℕ}
 use mathlib.Core.Bool.{cond}
 use lib.Dec.{eqb}
-use Rattle.params.specs.Refusal.{Refusal, nothing}
-use Rattle.params.specs.Judge.{Sheet, firstOf}
+use Rattle.params.specs.Refusal.{Refusal, nothing, firstOf}
+use Rattle.params.specs.Judge.{Sheet}
 use Rattle.registers.specs.Step.{gainOf}
 use Rattle.state.specs.declared.Frontend.{Frontend}
 use Rattle.state.specs.declared.Reading.{Reading}

@@ -7,7 +7,8 @@ use params::Verdict;
 use registers::LOOP_DELAY;
 use registers::Registers;
 ghost use mathlib.Core.Path.{_≡_};
-ghost use Rattle.params.specs.Judge.{sheetOf, firstOf};
+ghost use Rattle.params.specs.Refusal.{firstOf};
+ghost use Rattle.params.specs.Judge.{sheetOf};
 ghost use Rattle.state.specs.Check.{outline, goodState, stateFaults, sizeFaults, blockFaults, frontendRefusal};
 
 // 9: whether a block can go on from these registers and positions.

@@ -9,9 +9,8 @@ use lib.Dec.{ltb, eqb}
 use lib.IntN.{ℤ, pos, negsuc}
 use borrow.Author.Tests.{le-ltb, ne-eqb, eqb-true, eqb-false, ltb-false}
 use Rattle.text.specs.declared.Field.{Field}
-use Rattle.text.specs.Number.{Said, none, some, isDigit, digitsAfter, nothingAfterZero, numeral}
+use Rattle.text.specs.Fields.{Said, none, some, isDigit, digitsAfter, nothingAfterZero, numeral, plain, negative, fieldIn, wrongForm, outside, holds}
 use Rattle.print.specs.Number.{decimal, textOf}
-use Rattle.text.specs.Field.{plain, negative, fieldIn, wrongForm, outside, holds}
 use Rattle.text.specs.Inverse.{Within, Inverse}
 use Rattle.print.proofs.Writing as W
 

@@ -14,8 +14,7 @@ use lib.ListN.{length, drop, getD, drop-of-length-le}
 use lib.Seq.{drop-cons}
 use borrow.Author.Tests.{lt-ltb, le-ltb, eq-eqb, ne-eqb}
 use Rattle.text.specs.declared.Field.{Field}
-use Rattle.text.specs.Number.{Said, none, some, digitsAfter, numeral}
-use Rattle.text.specs.Field.{keptDigits, plain, negative, aboveZero, belowZero, wrongForm, outside, holds, fieldIn}
+use Rattle.text.specs.Fields.{Said, none, some, digitsAfter, numeral, keptDigits, plain, negative, aboveZero, belowZero, wrongForm, outside, holds, fieldIn}
 
 -- ---- the first byte
 

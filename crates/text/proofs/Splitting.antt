@@ -12,9 +12,8 @@ use lib.ListN.{length, take, drop, getD, set, drop-of-length-le, length-drop, le
 use lib.Seq.{drop-cons, take-all, drop-drop, sets}
 use borrow.Author.Tests.{lt-ltb, le-ltb, eq-eqb, ne-eqb}
 use Rattle.text.specs.declared.LineEnd.the-variants.{After, TooLong, Open}
-use Rattle.text.specs.Number.{Said, none, some, numeral}
-use Rattle.text.specs.Field.{fieldIn, fieldOf, downOf, upOf, plain, negative, outside, holds, wrongForm}
-use Rattle.text.specs.Line.{before, lineEndOf, Settled, onto, splitFields, worst, numberOf, values, Reading}
+use Rattle.text.specs.Fields.{Said, none, some, numeral, fieldIn, fieldOf, downOf, upOf, plain, negative, outside, holds, wrongForm}
+use Rattle.text.specs.Lines.{before, lineEndOf, Settled, onto, splitFields, worst, numberOf, values, Reading}
 
 -- ---- the first x
 

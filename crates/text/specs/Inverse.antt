@@ -5,7 +5,7 @@ use mathlib.Core.Path.{_≡_}
 use mathlib.Core.List.{List}
 use lib.IntN.{ℤ, pos, negsuc}
 use Rattle.print.specs.Number.{textOf}
-use Rattle.text.specs.Field.{fieldIn, holds}
+use Rattle.text.specs.Fields.{fieldIn, holds}
 
 -- An integer from `down` below zero to `up`.
 abbrev pub Within : ℕ → ℕ → ℤ → Type 0

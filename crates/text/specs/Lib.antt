@@ -1,5 +1,4 @@
--- The text of the symbol program: numbers, fields, lines read, and that reading and printing a number are inverse.
-pub mod Number
-pub mod Field
-pub mod Line
+-- The text of the symbol program: fields, lines read, and that reading and printing a number are inverse.
+pub mod Fields
+pub mod Lines
 pub mod Inverse

@@ -3,8 +3,7 @@ ghost use mathlib.Core.Path.{_≡_};
 ghost use Prim.Native.Nat.{_+_, _*_, _≤_, _<_, _^_, min};
 ghost use lib.ListN.{length, drop};
 ghost use lib.IntN.{pos};
-ghost use Rattle.text.specs.Number.{none, numeral};
-ghost use Rattle.text.specs.Field.{keptDigits, downOf, upOf, aboveZero, belowZero, fieldOf};
+ghost use Rattle.text.specs.Fields.{none, numeral, keptDigits, downOf, upOf, aboveZero, belowZero, fieldOf};
 use crate::Digits;
 use crate::Field;
 

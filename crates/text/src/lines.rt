@@ -2,7 +2,7 @@
 ghost use mathlib.Core.Path.{_≡_};
 ghost use Prim.Native.Nat.{_≤_, _+_, max};
 ghost use lib.ListN.{length, drop, set};
-ghost use Rattle.text.specs.Line.{before, lineEndOf, numberOf, Reading};
+ghost use Rattle.text.specs.Lines.{before, lineEndOf, numberOf, Reading};
 use crate::LONGEST;
 use crate::LineEnd;
 use crate::fields;

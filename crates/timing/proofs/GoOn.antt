@@ -9,8 +9,8 @@ use native.Mathlib.Omega.{arith}
 use lib.Dec.{eqb, leb}
 use lib.ListN.{length}
 use borrow.Author.Tests.{eqb-true}
-use Rattle.params.specs.Refusal.{Refusal, refusal}
-use Rattle.params.specs.Judge.{Sheet, unless, firstOf, faults}
+use Rattle.params.specs.Refusal.{Refusal, refusal, unless, firstOf}
+use Rattle.params.specs.Judge.{Sheet, faults}
 use Rattle.params.proofs.Accepted.{Accepted, judged-none, no-faults}
 use Rattle.state.specs.declared.Frontend.{Frontend}
 use Rattle.symbol.specs.declared.Symbol.{Symbol}

@@ -13,7 +13,7 @@ use borrow.Author.Tests.{le-leb, lt-leb}
 use Rattle.arith.proofs.Bits.{held}
 use Rattle.params.specs.declared.Params.{Params}
 use Rattle.params.specs.Judge.{sheetOf}
-use Rattle.params.specs.Offset.{Parts, offsetOf, offsetParts}
+use Rattle.params.specs.Offsets.{Parts, offsetOf, offsetParts}
 use Rattle.places.specs.Sheet.{sheetNumber}
 use Rattle.places.proofs.Answered.{refuses, writes}
 use Rattle.places.proofs.Read.{Unread, Sheeted, sheet-refused, sheet-read}

@@ -18,7 +18,8 @@ use Rattle.arith.proofs.Bits.{sfit}
 use Rattle.kinds.specs.Kinds.{at}
 use Rattle.kinds.proofs.OfKind.{count-small}
 use Rattle.params.specs.declared.Params.{Params}
-use Rattle.params.specs.Judge.{Sheet, firstOf, sheetOf}
+use Rattle.params.specs.Refusal.{firstOf}
+use Rattle.params.specs.Judge.{Sheet, sheetOf}
 use Rattle.state.specs.declared.Frontend.{Frontend}
 use Rattle.state.specs.Check.{stateFaults}
 use Rattle.state.specs.Read.{Read, readOf, reading}

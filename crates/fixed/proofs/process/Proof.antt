@@ -6,8 +6,8 @@ use mathlib.Core.List.{List, []}
 use lib.ListN.{length}
 use lib.IntN.{ℤ}
 use borrow.Author.Needs.{needs}
-use Rattle.params.specs.Refusal.{Refusal}
-use Rattle.params.specs.Judge.{Sheet, sheetOf, firstOf}
+use Rattle.params.specs.Refusal.{Refusal, firstOf}
+use Rattle.params.specs.Judge.{Sheet, sheetOf}
 use Rattle.state.specs.declared.Frontend.{Frontend}
 use Rattle.fixed.specs.Block.{Block, accepted, blockOf}
 use Rattle.state.specs.Check.{blockFaults}

@@ -8,7 +8,8 @@ use native.Mathlib.Omega.{arith}
 use lib.ListN.{length}
 use lib.IntN.{ℤ}
 use borrow.Author.Needs.{needs}
-use Rattle.params.specs.Judge.{sheetOf, rowOf, rowsFaults, rowsOutside}
+use Rattle.params.specs.Banks.{rowOf, rowsFaults, rowsOutside}
+use Rattle.params.specs.Judge.{sheetOf}
 use Rattle.params.proofs.Accepted.{Accepted, no-faults, judged-none}
 use Rattle.params.proofs.RowsOf.{row-inside}
 use Rattle.state.specs.declared.Pair.{Pair}

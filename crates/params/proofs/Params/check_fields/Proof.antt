@@ -12,8 +12,8 @@ use mir.Facts.{fits-widen}
 use Rattle.arith.proofs.Bits.{held}
 use Rattle.params.specs.declared.Params.{Params}
 use Rattle.params.specs.Refusal.{Refusal}
-use Rattle.arith.specs.Arith.{within}
 use Rattle.params.specs.Judge.{fieldTests, fieldFaults}
+use Rattle.arith.specs.Arith.{within}
 use Rattle.params.proofs.Faults.{First, none, keeps, breaks}
 use Rattle.params.proofs.Params.check_fields.Statement.{statement}
 use Rattle.params.proofs.Params.check_fields.Tie as tie

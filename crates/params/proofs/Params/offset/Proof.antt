@@ -13,9 +13,9 @@ use borrow.Author.Tests.{not-true, not-false, ne-eqb}
 use Rattle.arith.proofs.Bits.{held}
 use Rattle.params.specs.declared.Verdict.{Verdict}
 use Rattle.params.specs.declared.Verdict.the-variants.{Accepted}
-use Rattle.params.specs.Refusal.{Refusal, refusal, nothing, verdictRefusal}
-use Rattle.params.specs.Judge.{Sheet, unless, firstOf, faults, judged}
-use Rattle.params.specs.Offset.{Parts, partsOf, offsetOf}
+use Rattle.params.specs.Refusal.{Refusal, refusal, nothing, verdictRefusal, unless, firstOf}
+use Rattle.params.specs.Judge.{Sheet, faults, judged}
+use Rattle.params.specs.Offsets.{Parts, partsOf, offsetOf}
 use Rattle.params.proofs.Faults.{first-none, first-append, error-numbered, refused, faults-numbered}
 use Rattle.params.proofs.Params.offset.Statement.{statement}
 use Rattle.params.proofs.Params.offset.Tie as tie

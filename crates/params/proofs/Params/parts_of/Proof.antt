@@ -10,7 +10,7 @@ use mir.Facts.{toZ-ofZ}
 use borrow.Author.Needs.{needs}
 use Rattle.arith.proofs.Magnitude.{abs-minus, abs-mul}
 use Rattle.arith.proofs.Bits.{sfit, held, whole}
-use Rattle.params.specs.Offset.{partsOf}
+use Rattle.params.specs.Offsets.{partsOf}
 use Rattle.params.proofs.Params.parts_of.Statement.{statement}
 use Rattle.params.proofs.Params.parts_of.Tie as tie
 

@@ -6,8 +6,9 @@ use mathlib.Core.List.{List, []}
 use borrow.Author.Needs.{needs}
 use Rattle.params.specs.declared.Verdict.{Verdict}
 use Rattle.params.specs.declared.Verdict.the-variants.{Accepted}
-use Rattle.params.specs.Refusal.{Refusal, verdictRefusal}
-use Rattle.params.specs.Judge.{Sheet, firstOf, lengthFaults, bankFaults, fieldFaults, faults, judged}
+use Rattle.params.specs.Refusal.{Refusal, verdictRefusal, firstOf}
+use Rattle.params.specs.Banks.{bankFaults}
+use Rattle.params.specs.Judge.{Sheet, lengthFaults, fieldFaults, faults, judged}
 use Rattle.params.proofs.Faults.{Numbered, first-none, first-append, error-numbered, refused, lengths-numbered, banks-numbered}
 use Rattle.params.proofs.Accepted.{good-lengths}
 use Rattle.params.proofs.Params.validate.Statement.{statement}

@@ -9,8 +9,8 @@ use borrow.Author.Needs.{needs}
 use borrow.Author.Tests.{not-true, not-false}
 use Rattle.params.specs.declared.Verdict.{Verdict}
 use Rattle.params.specs.declared.Verdict.the-variants.{Accepted}
-use Rattle.params.specs.Refusal.{Refusal, errorRefusal, verdictRefusal}
-use Rattle.params.specs.Judge.{firstOf, rowsFaults, rowsOutside, bankFaults}
+use Rattle.params.specs.Refusal.{Refusal, errorRefusal, verdictRefusal, firstOf}
+use Rattle.params.specs.Banks.{rowsFaults, rowsOutside, bankFaults}
 use Rattle.params.proofs.Faults.{First, skip, stop, none, keeps, breaks, error-numbered, refused, first-none, rows-numbered}
 use Rattle.params.proofs.banks.check_banks.Statement.{statement}
 use Rattle.params.proofs.banks.check_banks.Tie as tie

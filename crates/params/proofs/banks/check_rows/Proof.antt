@@ -8,8 +8,8 @@ use native.Mathlib.Omega.{arith}
 use lib.ListN.{length, take, drop}
 use lib.IntN.{ℤ}
 use borrow.Author.Needs.{needs}
-use Rattle.params.specs.Refusal.{Refusal}
-use Rattle.params.specs.Judge.{firstOf, magnitudes, rowOf, rowFaults, rowsFaults, zeroOutside, rowsOutside}
+use Rattle.params.specs.Refusal.{Refusal, firstOf}
+use Rattle.params.specs.Banks.{magnitudes, rowOf, rowFaults, rowsFaults, zeroOutside, rowsOutside}
 use Rattle.params.proofs.Faults.{error-numbered}
 use Rattle.params.proofs.Rows.{light-row}
 use Rattle.params.proofs.RowsOf.{row-inside, row-long, row-part, row-next, rows-suc, rows-first, outside-suc}

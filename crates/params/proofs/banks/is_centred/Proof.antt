@@ -4,7 +4,7 @@ use Prim.Native.Nat.{_-_, min}
 use mathlib.Core.Path.{_≡_, sym}
 use native.Mathlib.Omega.{arith}
 use lib.ListN.{length, take, drop}
-use Rattle.params.specs.Judge.{magnitudes}
+use Rattle.params.specs.Banks.{magnitudes}
 use Rattle.params.proofs.Rows.{centred, short-centred}
 use borrow.Author.Needs.{needs}
 use Rattle.params.proofs.banks.is_centred.Statement.{statement}

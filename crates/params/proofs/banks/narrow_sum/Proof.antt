@@ -14,7 +14,7 @@ use mir.Syntax.{w32}
 use borrow.Author.Needs.{needs}
 use borrow.Author.Tests.{leb-true}
 use Rattle.arith.proofs.Bits.{held}
-use Rattle.params.specs.Judge.{magnitudes}
+use Rattle.params.specs.Banks.{magnitudes}
 use Rattle.params.proofs.Rows.{magnitudes-suc, and-left, and-right}
 use Rattle.params.proofs.banks.narrow_sum.Statement.{statement}
 use Rattle.params.proofs.banks.narrow_sum.Tie as tie

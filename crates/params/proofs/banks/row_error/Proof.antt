@@ -15,7 +15,7 @@ use borrow.Author.Needs.{needs}
 use Rattle.arith.proofs.Order.{not-less}
 use Rattle.arith.proofs.Bits.{held}
 use Rattle.arith.specs.Arith.{within}
-use Rattle.params.specs.Judge.{coefficientFaults}
+use Rattle.params.specs.Banks.{coefficientFaults}
 use Rattle.params.proofs.Rows.{coefficients-suc, coefficient-first, sum-first}
 use Rattle.params.proofs.banks.row_error.Statement.{statement}
 use Rattle.params.proofs.banks.row_error.Tie as tie

@@ -9,7 +9,7 @@ use lib.IntN.{pos, natAbs}
 use mir.Syntax.{w32}
 use borrow.Author.Needs.{needs}
 use Rattle.arith.proofs.Bits.{held}
-use Rattle.params.specs.Judge.{magnitudes}
+use Rattle.params.specs.Banks.{magnitudes}
 use Rattle.params.proofs.Rows.{magnitudes-suc}
 use Rattle.params.proofs.banks.wide_sum.Statement.{statement}
 use Rattle.params.proofs.banks.wide_sum.Tie as tie

@@ -13,7 +13,7 @@ use Rattle.params.specs.declared.ParamError.the-variants.{Taps, BankLength, Coe
 use Rattle.params.specs.Refusal.{errorRefusal}
 use Rattle.params.proofs.ParamError.{the-type}
 use Rattle.rows.specs.Rows.{signedBits}
-use Rattle.replay.specs.Answers.{carriesNone, carriesOne, carriesThree, ofError}
+use Rattle.replay.specs.Answer.{carriesNone, carriesOne, carriesThree, ofError}
 use Rattle.replay.proofs.answer.of_error.Statement.{statement}
 use Rattle.replay.proofs.answer.of_error.Tie as tie
 

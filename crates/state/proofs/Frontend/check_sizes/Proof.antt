@@ -7,8 +7,7 @@ use native.Mathlib.Omega.{arith}
 use lib.Dec.{eqb, leb, lit<}
 use borrow.Author.Needs.{needs}
 use borrow.Author.Tests.{eq-eqb, ne-eqb, le-leb, lt-leb}
-use Rattle.params.specs.Refusal.{Refusal, refusal}
-use Rattle.params.specs.Judge.{unless, firstOf}
+use Rattle.params.specs.Refusal.{Refusal, refusal, unless, firstOf}
 use Rattle.params.proofs.Faults.{First, none, keeps, breaks}
 use Rattle.state.specs.declared.Frontend.{Frontend}
 use Rattle.state.specs.Check.{sizeFaults}

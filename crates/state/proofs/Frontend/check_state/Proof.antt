@@ -5,8 +5,8 @@ use mathlib.Core.Bool.{Bool}
 use mathlib.Core.List.{[]}
 use borrow.Author.Needs.{needs}
 use borrow.Author.Tests.{not-true, not-false}
-use Rattle.params.specs.Refusal.{refusal}
-use Rattle.params.specs.Judge.{Sheet, sheetOf, unless, firstOf}
+use Rattle.params.specs.Refusal.{refusal, unless, firstOf}
+use Rattle.params.specs.Judge.{Sheet, sheetOf}
 use Rattle.state.specs.Check.{stateFaults}
 use Rattle.state.proofs.Verdicts.{sheet-passes, sheet-refuses, state-answer, outline-good}
 use Rattle.state.proofs.Frontend.check_state.Statement.{statement}

@@ -5,8 +5,8 @@ use mathlib.Core.Path.{_≡_, _∙_}
 use mathlib.Core.List.{[]}
 use native.Mathlib.Omega.{arith}
 use borrow.Author.Needs.{needs}
-use Rattle.params.specs.Refusal.{Refusal, nothing}
-use Rattle.params.specs.Judge.{Sheet, sheetOf, firstOf}
+use Rattle.params.specs.Refusal.{Refusal, nothing, firstOf}
+use Rattle.params.specs.Judge.{Sheet, sheetOf}
 use Rattle.state.specs.declared.Frontend.{Frontend}
 use Rattle.state.specs.Read.{Read, readOf}
 use Rattle.state.specs.Check.{stateFaults}

@@ -7,7 +7,7 @@ use mir.Syntax.{w64}
 use mir.Facts.{toZ-pos}
 use borrow.Author.Needs.{needs}
 use borrow.Author.Tests.{not-true, not-false, lt-ltb, le-ltb}
-use Rattle.text.specs.Field.{holds}
+use Rattle.text.specs.Fields.{holds}
 use Rattle.text.proofs.fields.above_zero.Statement.{statement}
 use Rattle.text.proofs.fields.above_zero.Tie as tie
 

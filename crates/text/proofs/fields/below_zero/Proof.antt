@@ -10,7 +10,7 @@ use mir.Facts.{toZ-pos, toZ-ofZ}
 use borrow.Author.Needs.{needs}
 use borrow.Author.Tests.{not-true, not-false, lt-ltb, le-ltb, eq-eqb, ne-eqb}
 use Rattle.arith.proofs.Order.{flip-up}
-use Rattle.text.specs.Field.{holds}
+use Rattle.text.specs.Fields.{holds}
 use Rattle.text.proofs.fields.below_zero.Statement.{statement}
 use Rattle.text.proofs.fields.below_zero.Tie as tie
 

@@ -6,8 +6,7 @@ use Prim.Native.Nat.{ℕ, _+_, _-_, _*_, _^_, _≤_, min}
 use native.Mathlib.Omega.{arith}
 use denote.Ref.{now}
 use lib.ListN.{length, drop, getD}
-use Rattle.text.specs.Number.{digitsAfter, numeral}
-use Rattle.text.specs.Field.{keptDigits}
+use Rattle.text.specs.Fields.{digitsAfter, numeral, keptDigits}
 use Rattle.text.proofs.Reading as R
 use Rattle.text.proofs.fields.digits_from.Statement.{statement}
 use Rattle.text.proofs.fields.digits_from.Tie as tie

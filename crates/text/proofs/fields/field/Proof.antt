@@ -11,7 +11,7 @@ use borrow.Author.Needs.{needs}
 use Rattle.kinds.specs.Kinds.{u8, u32, i16, i32, i64, leastOf, mostOf}
 use Rattle.text.specs.declared.Digits.{Digits}
 use Rattle.print.specs.Number.{magnitudeOf}
-use Rattle.text.specs.Field.{downOf, upOf, aboveZero, belowZero, fieldOf}
+use Rattle.text.specs.Fields.{downOf, upOf, aboveZero, belowZero, fieldOf}
 use Rattle.text.proofs.Reading as R
 use Rattle.text.proofs.fields.field.Statement.{statement}
 use Rattle.text.proofs.fields.field.Tie as tie

@@ -5,7 +5,7 @@ use Prim.Native.Nat.{_+_, _-_, _≤_}
 use native.Mathlib.Omega.{arith}
 use lib.ListN.{length, drop}
 use denote.Ref.{now}
-use Rattle.text.specs.Line.{before}
+use Rattle.text.specs.Lines.{before}
 use Rattle.text.proofs.Splitting as P
 use Rattle.text.proofs.lines.comma_from.Statement.{statement}
 use Rattle.text.proofs.lines.comma_from.Tie as tie

@@ -6,7 +6,7 @@ use native.Mathlib.Omega.{arith}
 use lib.ListN.{length, drop}
 use denote.Ref.{now}
 use borrow.Author.Needs.{needs}
-use Rattle.text.specs.Line.{before}
+use Rattle.text.specs.Lines.{before}
 use Rattle.text.proofs.Splitting as P
 use Rattle.text.proofs.lines.line_end.Statement.{statement}
 use Rattle.text.proofs.lines.line_end.Tie as tie

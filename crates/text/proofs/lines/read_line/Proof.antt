@@ -13,8 +13,8 @@ use mir.Facts.{toZ-ofZ}
 use denote.Ref.{now}
 use borrow.Author.Needs.{needs}
 use Rattle.text.specs.declared.Field.{Field}
-use Rattle.text.specs.Field.{fieldOf}
-use Rattle.text.specs.Line.{before, splitFields, worst, values, numberOf, Reading}
+use Rattle.text.specs.Fields.{fieldOf}
+use Rattle.text.specs.Lines.{before, splitFields, worst, values, numberOf, Reading}
 use Rattle.text.proofs.Splitting as P
 use Rattle.text.proofs.lines.read_line.Statement.{statement}
 use Rattle.text.proofs.lines.read_line.Tie as tie

@@ -10,7 +10,7 @@ use mir.Val.{SFits, ofZ}
 use native.Mathlib.Omega.{arith}
 use borrow.Author.Needs.{needs}
 use borrow.Author.Tests.{eq-eqb, ne-eqb}
-use Rattle.replay.specs.Answers.{eqZ, isAnswer}
+use Rattle.replay.specs.Answer.{eqZ, isAnswer}
 use Rattle.replay.proofs.Laws.{same-bits}
 use Rattle.replay.proofs.answer.Answer.is.Statement.{statement}
 use Rattle.replay.proofs.answer.Answer.is.Tie as tie

@@ -10,7 +10,7 @@ use lib.ListN.{length}
 use lib.Seq.{sets}
 use Rattle.text.specs.declared.LineEnd.{LineEnd}
 use Rattle.text.specs.declared.LineEnd.the-variants.{After, TooLong, Open}
-use Rattle.text.specs.Field.{fieldOf}
+use Rattle.text.specs.Fields.{fieldOf}
 
 -- ---- where a line ends
 

@@ -1,10 +1,10 @@
--- `params::is_integrator_end` meets its contract: its two tests are the definition's.
+-- `params::judge::is_integrator_end` meets its contract: its two tests are the definition's.
 use mathlib.Core.Bool.{true, false}
 use lib.IntN.{pos}
 use mir.Facts.{toZ-ofZ}
 use Rattle.arith.proofs.Order.{not-less}
-use Rattle.params.proofs.is_integrator_end.Statement.{statement}
-use Rattle.params.proofs.is_integrator_end.Tie as tie
+use Rattle.params.proofs.judge.is_integrator_end.Statement.{statement}
+use Rattle.params.proofs.judge.is_integrator_end.Tie as tie
 
 returns : tie.Need-returns
 returns c = simp (not-less (c .before .args .v) (pos 0) true (simp (toZ-ofZ (c .before .fits .v)) at (c .if1 .taken)))

@@ -1,7 +1,7 @@
--- `params::is_within` meets its contract: its two tests are the definition's.
+-- `params::judge::is_within` meets its contract: its two tests are the definition's.
 use borrow.Author.Tests.{lt-leb, le-leb}
-use Rattle.params.proofs.is_within.Statement.{statement}
-use Rattle.params.proofs.is_within.Tie as tie
+use Rattle.params.proofs.judge.is_within.Statement.{statement}
+use Rattle.params.proofs.judge.is_within.Tie as tie
 
 returns : tie.Need-returns
 returns c = simp (lt-leb _ _ (c .if1 .taken))

@@ -1,9 +1,9 @@
--- `params::is_good_taps` meets its contract: its tests are the three of the definition, in the same order.
+-- `params::judge::is_good_taps` meets its contract: its tests are the three of the definition, in the same order.
 -- The first that fails decides.
 use borrow.Author.Tests.{lt-leb, le-leb}
 use Rattle.params.specs.Judge.{goodTaps}
-use Rattle.params.proofs.is_good_taps.Statement.{statement}
-use Rattle.params.proofs.is_good_taps.Tie as tie
+use Rattle.params.proofs.judge.is_good_taps.Statement.{statement}
+use Rattle.params.proofs.judge.is_good_taps.Tie as tie
 
 returns : tie.Need-returns
 unfolding goodTaps

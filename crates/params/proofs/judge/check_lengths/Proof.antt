@@ -1,4 +1,4 @@
--- `params::check_lengths` meets its contract: it makes the definition's tests in the definition's order.
+-- `params::judge::check_lengths` meets its contract: it makes the definition's tests in the definition's order.
 use mathlib.Core.Path.{_≡_, sym, _∙_}
 use mathlib.Core.Bool.{true}
 use lib.Dec.{lit<}
@@ -6,8 +6,8 @@ use borrow.Author.Needs.{needs}
 use borrow.Author.Tests.{not-true, not-false, eq-eqb, ne-eqb}
 use Rattle.params.specs.Judge.{goodTaps, goodLength, lengthFaults}
 use Rattle.params.proofs.Faults.{First, none, keeps, breaks}
-use Rattle.params.proofs.check_lengths.Statement.{statement}
-use Rattle.params.proofs.check_lengths.Tie as tie
+use Rattle.params.proofs.judge.check_lengths.Statement.{statement}
+use Rattle.params.proofs.judge.check_lengths.Tie as tie
 
 is-good-taps-requires : tie.Need-is-good-taps-requires
 is-good-taps-requires c κs = search needs

@@ -9,8 +9,8 @@ use lib.Signed.{shrZ}
 use Rattle.params.specs.declared.Params.{Params}
 use Rattle.params.specs.declared.Offset.{Offset}
 use Rattle.params.specs.declared.OffsetVerdict.{OffsetVerdict}
-use Rattle.params.specs.Refusal.{Refusal, refusal, nothing, errorRefusal}
-use Rattle.params.specs.Judge.{Sheet, unless, firstOf, faults}
+use Rattle.params.specs.Refusal.{Refusal, refusal, nothing, errorRefusal, unless, firstOf}
+use Rattle.params.specs.Judge.{Sheet, faults}
 
 -- A refusal, or nothing, with a number of parts.
 pub record Parts : Type 0 where
