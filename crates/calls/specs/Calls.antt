@@ -11,7 +11,7 @@ use lib.IntN.{ℤ, pos, negℤ}
 use lib.Ieee.{Float}
 use Rattle.params.specs.declared.Params.{Params}
 use Rattle.params.specs.Judge.{Sheet, sheetOf, judged}
-use Rattle.params.specs.Offsets.{Parts, offsetOf}
+use Rattle.offset.specs.Offset.{Parts, offsetOf}
 use Rattle.input.specs.Input.{componentOf}
 use Rattle.design.specs.Refusal.{Answer as Designed, accepted, refused}
 use Rattle.design.specs.Design.{sheetOfDesign}

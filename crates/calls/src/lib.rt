@@ -121,7 +121,7 @@ pub fn offset(
     match places::read_sheet(sheet) {
         ReadSheet::Refused(number) => number,
         ReadSheet::Sheet(p) => {
-            let offset = p.offset(h, g, k, period);
+            let offset = offset::of_period(p, h, g, k, period);
             let verdict = offset.verdict;
             let refused = verdict.number();
             if refused != 0 {

@@ -4,7 +4,7 @@ use Rattle.arith.specs.Arith.{roundShift, clampZ, modZ, wrapI32}
 use Rattle.tables.specs.Wheel.{quarter, wheel}
 use Rattle.params.specs.Banks.{rowOf, coefficientFaults, magnitudes, rowFaults, rowsFaults, detectorPlace, zeroOutside, rowsOutside, bankFaults}
 use Rattle.params.specs.Judge.{goodTaps, goodLength, lengthFaults, goodPeriods, fieldFaults, faults, judged}
-use Rattle.params.specs.Offsets.{partsOf, offsetOf}
+use Rattle.offset.specs.Offset.{partsOf, offsetOf}
 use Rattle.floats.specs.Whole.{roundAway}
 use Rattle.steps.specs.Steps.{hundredths, periodNominal, atLeastMin, periodMin, periodMax, integratorMax, ncoStep, agcTarget}
 use Rattle.design.specs.Registers.{spsOf, registersOf}

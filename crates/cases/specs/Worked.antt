@@ -10,7 +10,7 @@ use Rattle.params.specs.declared.Params.{Params}
 use Rattle.params.specs.Refusal.{refusal, nothing}
 use Rattle.params.specs.Banks.{detectorPlace}
 use Rattle.params.specs.Judge.{judged}
-use Rattle.params.specs.Offsets.{offsetOf}
+use Rattle.offset.specs.Offset.{offsetOf}
 use Rattle.design.specs.Refusal.{accepted}
 use Rattle.design.specs.Design.{designOf}
 use Rattle.fixed.specs.Mix.{mixed}

@@ -1,5 +1,4 @@
--- What a reader has to believe of the sheet: the refusals, the banks, judging, and the offset.
+-- What a reader has to believe of the sheet: the refusals, the banks, and judging.
 pub mod Refusal
 pub mod Banks
 pub mod Judge
-pub mod Offsets

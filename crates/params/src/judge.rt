@@ -44,7 +44,8 @@ fn check_lengths(taps: u32, h: &[i32], g: &[i32], k: &[i32]) -> Verdict
     Verdict::Accepted
 }
 
-pub(crate) fn is_within(v: u32, lo: u32, hi: u32) -> bool
+// Whether v lies from lo to hi, both among them.
+pub fn is_within(v: u32, lo: u32, hi: u32) -> bool
     ensures { λ r. ⌜ r ≡ (leb lo v && leb v hi) ⌝ }
 {
     if v < lo {

@@ -1,11 +1,11 @@
 // The sheet: the parameters of the front end, how they are judged, and why they are refused.
 mod banks;
 mod judge;
-mod offsets;
 mod refusal;
 
 pub use banks::detector_of;
 pub use judge::is_good_taps;
+pub use judge::is_within;
 
 // The run-time parameters (RULES 1.1). The banks h, g and k are lent beside it, each 64 rows of `taps` numbers, row by row.
 pub struct Params {
@@ -53,20 +53,6 @@ pub enum ParamError {
 pub enum Verdict {
     Accepted,
     Refused(ParamError),
-}
-
-// What the offset of a period answers beside its value: its sheet may be refused, or the period be one that the loop never sets
-// (RULES 6.1).
-pub enum OffsetVerdict {
-    Accepted,
-    Params(ParamError),
-    Period,
-}
-
-// A period's offset from the nominal one, in parts per thousand million; 0 where it is refused.
-pub struct Offset {
-    pub verdict: OffsetVerdict,
-    pub parts: i64,
 }
 
 // Where the timing detector's places of a row begin and end: the eight in the middle, or all of a row that has fewer.

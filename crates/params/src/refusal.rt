@@ -1,12 +1,10 @@
 // The numbers of refusals.
 //
 // Text and C have no enums: there a refusal is its number alone, and 0 is that of nothing refused. What else it carries does not cross.
-use crate::OffsetVerdict;
 use crate::ParamError;
 use crate::Verdict;
 ghost use mathlib.Core.Path.{_≡_};
 ghost use Rattle.params.specs.Refusal.{errorRefusal, verdictRefusal};
-ghost use Rattle.params.specs.Offsets.{offsetRefusal};
 
 impl ParamError {
     pub fn number(self) -> u32
@@ -32,18 +30,6 @@ impl Verdict {
         match self {
             Verdict::Accepted => 0,
             Verdict::Refused(e) => e.number(),
-        }
-    }
-}
-
-impl OffsetVerdict {
-    pub fn number(self) -> u32
-        ensures { λ r. ⌜ r ≡ offsetRefusal self .number ⌝ }
-    {
-        match self {
-            OffsetVerdict::Accepted => 0,
-            OffsetVerdict::Params(e) => e.number(),
-            OffsetVerdict::Period => 13,
         }
     }
 }

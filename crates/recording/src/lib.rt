@@ -4,8 +4,10 @@ mod lines;
 mod places;
 
 pub use lines::next_line;
+pub use places::bank_length;
 pub use places::keep_pair;
 pub use places::keep_row;
+pub use places::row_length;
 
 // What comes next in the input.
 pub enum Next {

@@ -121,7 +121,7 @@ impl Replay {
         let params = sheet.params;
         let banks = sheet.banks;
         let period = arith::wrap_u32(rows::at(row, 1));
-        let offset = params.offset(banks.h(room), banks.g(room), banks.k(room), period);
+        let offset = offset::of_period(params, banks.h(room), banks.g(room), banks.k(room), period);
         let verdict = offset.verdict;
         row.len() == 4
             && rows::at(row, 2) == offset.parts

@@ -19,7 +19,8 @@ fn main() {
     head = head.with_bank(2, &mut h, &mut bytes);
     head = head.with_bank(66, &mut g, &mut bytes);
     head = head.with_bank(130, &mut k, &mut bytes);
-    let long = head.long();
+    let params = head.params;
+    let long = recording::bank_length(params.taps);
     let mut out = io::large_buffer();
     let left = run::run(
         head,

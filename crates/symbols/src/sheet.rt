@@ -1,5 +1,4 @@
 // The first 193 lines: the sheet's 17 fields, and 64 rows of each bank.
-ghost use Prim.Native.Nat.{_≤_};
 use crate::input::Input;
 use crate::stop::Stop;
 use kinds::I32;
@@ -53,14 +52,6 @@ impl Head {
         }
     }
 
-    // The numbers of a bank.
-    pub(crate) fn long(self) -> usize
-        ensures { λ r. ⌜ r ≤ 4096 ⌝ }
-    {
-        let params = self.params;
-        arith::least(params.taps as usize, 64) * 64
-    }
-
     // With a bank, whose rows begin at this line.
     pub(crate) fn with_bank(self, first: u64, room: &mut [i32], bytes: &mut [u8]) -> Head {
         let params = self.params;
@@ -68,7 +59,7 @@ impl Head {
         let mut stop = self.stop;
         let mut values = [0i64; 64];
         let kinds = [I32; 64];
-        let taps = arith::least(params.taps as usize, 64);
+        let taps = recording::row_length(params.taps);
         let mut from: usize = 0;
         let mut row: u64 = 0;
         while row < ROWS && stop.is_no() {

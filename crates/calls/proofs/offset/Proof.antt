@@ -13,7 +13,7 @@ use borrow.Author.Tests.{le-leb, lt-leb}
 use Rattle.arith.proofs.Bits.{held}
 use Rattle.params.specs.declared.Params.{Params}
 use Rattle.params.specs.Judge.{sheetOf}
-use Rattle.params.specs.Offsets.{Parts, offsetOf, offsetParts}
+use Rattle.offset.specs.Offset.{Parts, offsetOf, offsetParts}
 use Rattle.places.specs.Sheet.{sheetNumber}
 use Rattle.places.proofs.Answered.{refuses, writes}
 use Rattle.places.proofs.Read.{Unread, Sheeted, sheet-refused, sheet-read}
@@ -38,21 +38,21 @@ unread c = sheet-refused _ (sym (c .before .before .read-sheet .ensures) ∙ c .
 readable : (c : tie.After-p) → Sheeted (c .before .before .before .args .sheet .now) (c .p .given .0 .0)
 readable c = sheet-read _ (sym (c .before .before .read-sheet .ensures) ∙ c .p .given .1)
 
-offset-requires : tie.Need-offset-requires
-offset-requires c κs = search needs
+of-period-requires : tie.Need-of-period-requires
+of-period-requires c κs = search needs
 
 number-requires : tie.Need-number-requires
 number-requires c κs = search needs
 
 -- what the offset is by it
-module _ (c : tie.After-offset) where
+module _ (c : tie.After-of-period) where
   abbrev answer : Parts
   answer = let a = c .before .before .before .before .before .args in offsetOf (sheetAt (a .sheet .now) (a .h .now) (a .g .now) (a .k .now)) (a .period)
 
-  told : offsetParts (c .offset .result) ≡ answer
+  told : offsetParts (c .of-period .result) ≡ answer
   told =
       let a = c .before .before .before .before .before .args in
-      c .offset .ensures ∙ ap (λ (p : Params). offsetOf (sheetOf p (a .h .now) (a .g .now) (a .k .now)) (a .period)) (readable (c .before .before) .is)
+      c .of-period .ensures ∙ ap (λ (p : Params). offsetOf (sheetOf p (a .h .now) (a .g .now) (a .k .now)) (a .period)) (readable (c .before .before) .is)
 
 -- its number
 number : (c : tie.After-number2) → c .number2 .result ≡ answer (c .before) .refused .number
@@ -94,7 +94,7 @@ returns-4 c =
     let right = c .before in
     let verdict = right .before .before in
     let places = verdict .before .before .before .before .before .before .args .answer .now in
-    let parts = verdict .before .offset .result .parts in
+    let parts = verdict .before .of-period .result .parts in
     let long : _≡_ {A = ℕ} 0 (cond (leb 1 (length places)) 0 11) = rw (le-leb 1 (length places) (right .if2 .left)) refl in
     writes _ _ _ (sized verdict (right .before .if1 .left) long)
     (simp (held w64 parts (search (c .struct-told .given) depth 40)) (sets-eq (parts ∷ []) places 0 (omega arith))
@@ -107,7 +107,7 @@ offset-spec =
     read-sheet-requires
     enum-known-number
     enum-known-p
-    offset-requires
+    of-period-requires
     number-requires
     returns
     returns-2

@@ -15,11 +15,8 @@ abbrev μ-loop : tie.MeasureT-loop
 μ-loop first room₀ bytes₀ params rest₀ stop₀ values₀ kinds taps from₀ row₀ room bytes rest stop values from row =
     64 - row
 
-cast-least : tie.Need-cast-least Inv-loop μ-loop
-cast-least c = search needs
-
-least-requires : tie.Need-least-requires Inv-loop μ-loop
-least-requires c κs = search needs
+row-length-requires : tie.Need-row-length-requires Inv-loop μ-loop
+row-length-requires c κs = search needs
 
 loop-holds : tie.Need-loop-holds Inv-loop μ-loop
 loop-holds c = search needs
@@ -90,8 +87,7 @@ with-bank-spec =
     (tie.spec
     Inv-loop
     μ-loop
-    cast-least
-    least-requires
+    row-length-requires
     loop-holds
     is-no-requires
     wrapping-add-u64-requires

@@ -1,4 +1,4 @@
--- `params::Params::parts_of` meets its contract: the difference of two unsigned 32-bit numbers takes 33 bits and a sign, and 10^9 less than 30 more,
+-- `offset::parts_of` meets its contract: the difference of two unsigned 32-bit numbers takes 33 bits and a sign, and 10^9 less than 30 more,
 -- so nothing is lost before the division.
 use Prim.Native.Nat.{ℕ}
 use mathlib.Core.Path.{_≡_, _∙_}
@@ -10,9 +10,9 @@ use mir.Facts.{toZ-ofZ}
 use borrow.Author.Needs.{needs}
 use Rattle.arith.proofs.Magnitude.{abs-minus, abs-mul}
 use Rattle.arith.proofs.Bits.{sfit, held, whole}
-use Rattle.params.specs.Offsets.{partsOf}
-use Rattle.params.proofs.Params.parts_of.Statement.{statement}
-use Rattle.params.proofs.Params.parts_of.Tie as tie
+use Rattle.offset.specs.Offset.{partsOf}
+use Rattle.offset.proofs.parts_of.Statement.{statement}
+use Rattle.offset.proofs.parts_of.Tie as tie
 
 difference-fits : (a b : ℕ) → Fits w32 a → Fits w32 b → SFits w64 (pos a -ℤ pos b)
 difference-fits a b f g = sfit {z = pos a -ℤ pos b} (omega (arith, f .fits, g .fits, abs-minus (pos a) (pos b)))

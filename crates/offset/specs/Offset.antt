@@ -6,11 +6,11 @@ use mathlib.Core.List.{[], _++_}
 use lib.Dec.{leb, eqb}
 use lib.IntN.{ℤ, pos, _-ℤ_, _*ℤ_}
 use lib.Signed.{shrZ}
 use Rattle.params.specs.declared.Params.{Params}
-use Rattle.params.specs.declared.Offset.{Offset}
-use Rattle.params.specs.declared.OffsetVerdict.{OffsetVerdict}
+use Rattle.offset.specs.declared.Offset.{Offset}
+use Rattle.offset.specs.declared.OffsetVerdict.{OffsetVerdict}
 use Rattle.params.specs.Refusal.{Refusal, refusal, nothing, errorRefusal, unless, firstOf}
 use Rattle.params.specs.Judge.{Sheet, faults}
 
 -- A refusal, or nothing, with a number of parts.
 pub record Parts : Type 0 where

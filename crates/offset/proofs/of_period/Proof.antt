@@ -1,4 +1,4 @@
--- `params::Params::offset` meets its contract: a sheet that is refused answers for itself, and after one that is not, the period is the only thing left to
+-- `offset::of_period` meets its contract: a sheet that is refused answers for itself, and after one that is not, the period is the only thing left to
 -- refuse.
 use Prim.Native.Nat.{ℕ, _<_}
 use mathlib.Core.Path.{_≡_, refl, sym, ap, _∙_, subst}
@@ -11,14 +11,14 @@ use mir.Syntax.{w64}
 use borrow.Author.Needs.{needs}
 use borrow.Author.Tests.{not-true, not-false, ne-eqb}
 use Rattle.arith.proofs.Bits.{held}
 use Rattle.params.specs.declared.Verdict.{Verdict}
 use Rattle.params.specs.declared.Verdict.the-variants.{Accepted}
 use Rattle.params.specs.Refusal.{Refusal, refusal, nothing, verdictRefusal, unless, firstOf}
 use Rattle.params.specs.Judge.{Sheet, faults, judged}
-use Rattle.params.specs.Offsets.{Parts, partsOf, offsetOf}
+use Rattle.offset.specs.Offset.{Parts, partsOf, offsetOf}
 use Rattle.params.proofs.Faults.{first-none, first-append, error-numbered, refused, faults-numbered}
-use Rattle.params.proofs.Params.offset.Statement.{statement}
-use Rattle.params.proofs.Params.offset.Tie as tie
+use Rattle.offset.proofs.of_period.Statement.{statement}
+use Rattle.offset.proofs.of_period.Tie as tie
 
 -- the answer, by what was found
 abbrev answer : Sheet → ℕ → Refusal → Parts
@@ -77,8 +77,8 @@ returns-3 c =
     ∙ sheet-passed _ _ (passed (v .before .before .validate .ensures) (v .enum-told .given .1)) (sym (c .before .before .is-within .ensures)
     ∙ not-false _ (c .before .if1 .left))
 
-pub offset-spec : {M : Type 1} → statement M
-offset-spec =
+pub of-period-spec : {M : Type 1} → statement M
+of-period-spec =
     tie.close
     (tie.spec
     validate-requires
