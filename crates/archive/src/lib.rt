@@ -1,6 +1,7 @@
-// The front end for C and Rust: crates/calls under the names and with the arguments that include/huntelm.h declares.
+// The front end for C and Rust: crates/calls, and float samples of crates/input, under the names and with the arguments that include/huntelm.h declares.
 ghost use mathlib.Core.Path.{_≡_};
-ghost use Rattle.calls.specs.Calls.{judgeNumber, startAnswer, blockAnswer, readAnswer, offsetAnswer, sampleAnswer, designAnswer};
+ghost use Rattle.calls.specs.Calls.{judgeNumber, startAnswer, blockAnswer, readAnswer, offsetAnswer, designAnswer};
+ghost use Rattle.input.specs.Input.{sampleAnswer};
 
 #[no_mangle]
 pub extern "C" fn huntelm_judge(sheet: &[i64], h: &[i32], g: &[i32], k: &[i32]) -> u32
@@ -74,7 +75,7 @@ pub extern "C" fn huntelm_offset(
 pub extern "C" fn huntelm_sample(floats: &[f32], values: &mut [i16]) -> u32
     ensures { λ r. ⌜ record { number = r; places = now (values .exit) } ≡ sampleAnswer (now (floats .entry)) (now (values .entry)) ⌝ }
 {
-    calls::sample(floats, values)
+    input::sample(floats, values)
 }
 
 #[no_mangle]

@@ -13,6 +13,8 @@ use mir.Facts.{toZ-ofZ}
 use borrow.Author.Tests.{eq-eqb, ne-eqb, eqb-true, eqb-false}
 use Rattle.arith.proofs.Magnitude.{abs-neg}
 use Rattle.arith.proofs.Bits.{sfit, whole}
+use Rattle.kinds.specs.Answer.{answered, firstNumber}
+use Rattle.kinds.proofs.Answered.{first-is, then-is}
 use Rattle.params.specs.Refusal.{Refusal, firstOf}
 use Rattle.params.specs.Judge.{Sheet, faults, judged}
 use Rattle.params.proofs.Faults.{Numbered, faults-numbered, first-none}
@@ -29,18 +31,11 @@ use Rattle.fixed.proofs.States.{run-going}
 use Rattle.fixed.proofs.Runs.{run-samples}
 use Rattle.fixed.proofs.Turns.{pairs-long}
 use Rattle.state.proofs.Verdicts.{block-numbered, state-refuses, Faultless, faultless}
-use Rattle.places.specs.Answer.{answered}
 use Rattle.places.specs.States.{stateFits, stateOf, readState, hasPlaces}
 use Rattle.places.proofs.Placed.{Placed, has-places}
-use Rattle.calls.specs.Calls.{firstNumber, stateNumber}
+use Rattle.calls.specs.Calls.{stateNumber}
 
 -- ---- numbers of refusals
-
-pub first-is : (a b : ℕ) {n : ℕ} → (n ≡ 0 → ⊥) → n ≡ a → n ≡ firstNumber a b
-first-is a b h e = rw (ne-eqb a 0 (λ z. h (e ∙ z))) e
-
-pub then-is : (a b : ℕ) {n : ℕ} → a ≡ 0 → n ≡ b → n ≡ firstNumber a b
-then-is a b z e = rw (eq-eqb a 0 z) e
 
 -- 9 is not 0, and neither is what comes before it
 nine : (a : ℕ) {n : ℕ} → n ≡ firstNumber a 9 → n ≡ 0 → ⊥

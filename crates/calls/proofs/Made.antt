@@ -35,9 +35,11 @@ use Rattle.places.specs.Rates.{designKinds, designNumber, designAt, gainsAt}
 use Rattle.places.specs.Crossing.{TypedSheet}
 use Rattle.places.proofs.Readable.{readable-design}
 use Rattle.places.proofs.Sheets.{sheets-cross}
-use Rattle.calls.specs.Calls.{firstNumber, judgeNumber, refusedBy, writtenBy, designAnswer}
+use Rattle.kinds.specs.Answer.{firstNumber}
+use Rattle.kinds.proofs.Answered.{then-is}
+use Rattle.calls.specs.Calls.{judgeNumber, refusedBy, writtenBy, designAnswer}
 use Rattle.calls.specs.Made.{Made, DesignsCross}
-use Rattle.calls.proofs.Answers.{then-is, none-of}
+use Rattle.calls.proofs.Answers.{none-of}
 
 -- ---- the types of a design's registers
 

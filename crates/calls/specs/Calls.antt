@@ -1,31 +1,26 @@
--- What each call of the C interface answers, for any places, banks and buffers. The answers are those of judging, starting, the block, reading, the offset,
--- float samples and a design with its sheet; ours is only how they cross: refusals by number alone, sheets and states as places, and no buffer touched by a
--- call that is refused.
+-- What the calls of the C interface answer, for any places, banks and buffers. The answers are those of judging, starting, the block, reading, the offset
+-- and a design with its sheet; ours is only how they cross: refusals by number alone, sheets and states as places, and no buffer touched by a call that is
+-- refused. (Float samples: crates/input.)
 -- (RULES 8.5)
-use Prim.Native.Nat.{ℕ, _%_}
+use Prim.Native.Nat.{ℕ}
 use mathlib.Core.Bool.{cond}
-use mathlib.Core.List.{List, _∷_, _++_, map}
+use mathlib.Core.List.{List, _∷_, _++_}
 use lib.Dec.{eqb, leb}
 use lib.ListN.{length, drop}
 use lib.IntN.{ℤ, pos, negℤ}
 use lib.Ieee.{Float}
+use Rattle.kinds.specs.Answer.{Answer, answered, firstNumber}
 use Rattle.params.specs.declared.Params.{Params}
 use Rattle.params.specs.Judge.{Sheet, sheetOf, judged}
 use Rattle.offset.specs.Offset.{Parts, offsetOf}
-use Rattle.input.specs.Input.{componentOf}
 use Rattle.design.specs.Refusal.{Answer as Designed, accepted, refused}
 use Rattle.design.specs.Design.{sheetOfDesign}
 use Rattle.state.specs.Start.{Start, startOf}
 use Rattle.fixed.specs.Block.{Block, blockOf}
 use Rattle.state.specs.Read.{Read, readOf}
-use Rattle.places.specs.Answer.{Answer, answered}
 use Rattle.places.specs.Sheet.{sheetNumber, paramsAt, sheetNumbers}
 use Rattle.places.specs.Rates.{designNumber, designAt, gainsAt}
 use Rattle.places.specs.States.{stateFits, stateOf, numbersOf}
-
--- The first of two numbers of refusals, 0 standing for none.
-abbrev pub firstNumber : ℕ → ℕ → ℕ
-firstNumber a b = cond (eqb a 0) b a
 
 -- The sheet that 17 places and the banks say.
 abbrev pub sheetAt : List ℤ → List ℤ → List ℤ → List ℤ → Sheet
@@ -74,13 +69,6 @@ unfoldable pub offsetAnswer : List ℤ → List ℤ → List ℤ → List ℤ �
 offsetAnswer l h g k period places =
     let a : Parts = offsetOf (sheetAt l h g k) period in
     answered (firstNumber (sheetNumber l) (firstNumber (a .refused .number) (cond (leb 1 (length places)) 0 11))) (a .parts ∷ drop 1 places) places
-
--- Float samples: 10 for an odd number of floats, then 11 where there are fewer places than floats. Each float is a component by itself, and goes to the
--- place of its number.
-unfoldable pub sampleAnswer : List Float → List ℤ → Answer
-sampleAnswer floats places =
-    answered (firstNumber (cond (eqb (length floats % 2) 0) 0 10) (cond (leb (length floats) (length places)) 0 11))
-    (map componentOf floats ++ drop (length floats) places) places
 
 -- The number of a design's answer, 0 for a sheet.
 abbrev pub refusedBy : Designed Params → ℕ

@@ -1,4 +1,4 @@
-// What each call of the interface to C answers: judging, starting, the block, reading, the offset, float samples and designs, over numbers and lent slices.
+// What the calls of the interface to C answer: judging, starting, the block, reading, the offset and designs, over numbers and lent slices.
 //
 // No call asks anything of its caller: whatever is lent, it answers, with a refusal's number where something is wrong, and then it has touched no place.
 // 18 and 19 refuse a sheet or a design that cannot be read, before 1 to 8 and 14 to 17; places that are those of no state are refused by 9, after 1 to 8.
@@ -6,7 +6,7 @@ use design::SheetVerdict;
 use places::ReadDesign;
 use places::ReadSheet;
 ghost use mathlib.Core.Path.{_≡_};
-ghost use Rattle.calls.specs.Calls.{judgeNumber, startAnswer, blockAnswer, readAnswer, offsetAnswer, sampleAnswer, designAnswer};
+ghost use Rattle.calls.specs.Calls.{judgeNumber, startAnswer, blockAnswer, readAnswer, offsetAnswer, designAnswer};
 
 // The number of the sheet's first fault, or 0 (RULES 1.4).
 pub fn judge(sheet: &[i64], h: &[i32], g: &[i32], k: &[i32]) -> u32
@@ -135,24 +135,6 @@ pub fn offset(
             0
         }
     }
-}
-
-// Takes the components of float samples, I before Q, as the front end does (RULES 6.2). Value n is made of float n.
-pub fn sample(floats: &[f32], values: &mut [i16]) -> u32
-    ensures { λ r. ⌜ record { number = r; places = now (values .exit) } ≡ sampleAnswer (now (floats .entry)) (now (values .entry)) ⌝ }
-{
-    if floats.len() % 2 != 0 {
-        return 10;
-    }
-    if values.len() < floats.len() {
-        return 11;
-    }
-    let mut n: usize = 0;
-    while n < floats.len() {
-        values[n] = input::component(floats[n]);
-        n += 1;
-    }
-    0
 }
 
 // Writes the sheet of a design to the first 17 places (RULES 6.4). The design comes as five rates and eight fields.

@@ -1,7 +1,6 @@
 -- Laws of sheets, states and designs as places.
 pub mod Readable
 pub mod Read
-pub mod Answered
 pub mod Placed
 pub mod Pairs
 pub mod Widths

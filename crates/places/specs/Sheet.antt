@@ -10,7 +10,7 @@ use Rattle.params.specs.declared.Params.{Params}
 use Rattle.kinds.specs.Kinds.{at, u8, u32, i16, i32, placesNumber}
 use Rattle.places.specs.declared.ReadSheet.{ReadSheet}
 use Rattle.places.specs.declared.ReadSheet.the-variants.{Sheet, Refused}
-use Rattle.places.specs.Answer.{Answer, answered}
+use Rattle.kinds.specs.Answer.{Answer, answered}
 
 -- The types of the fields.
 abbrev pub sheetKinds : List ℕ

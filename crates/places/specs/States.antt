@@ -11,7 +11,7 @@ use Rattle.registers.specs.declared.Pending.{Pending}
 use Rattle.state.specs.declared.Frontend.{Frontend}
 use Rattle.state.specs.Start.{atRest}
 use Rattle.kinds.specs.Kinds.{at, u32, i32, i64, count, areKinds}
-use Rattle.places.specs.Answer.{Answer, answered}
+use Rattle.kinds.specs.Answer.{Answer, answered}
 
 -- ---- numbers in pairs
 

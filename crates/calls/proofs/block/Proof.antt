@@ -17,12 +17,13 @@ use Rattle.params.specs.Judge.{Sheet, sheetOf}
 use Rattle.state.specs.declared.Frontend.{Frontend}
 use Rattle.fixed.specs.Block.{Block, blockOf, processed}
 use Rattle.places.specs.Sheet.{sheetNumber}
-use Rattle.places.specs.Answer.{Answer}
+use Rattle.kinds.specs.Answer.{Answer, firstNumber}
 use Rattle.places.specs.States.{stateFits, stateOf, readState, numbersOf, hasPlaces, stateWritten}
-use Rattle.calls.specs.Calls.{firstNumber, sheetAt, stateNumber, BlockAnswer, blockAnswer}
+use Rattle.kinds.proofs.Answered.{first-is, then-is}
+use Rattle.calls.specs.Calls.{sheetAt, stateNumber, BlockAnswer, blockAnswer}
 use Rattle.places.proofs.Readable.{state-long}
 use Rattle.places.proofs.Read.{Unread, Sheeted, sheet-refused, sheet-read}
-use Rattle.calls.proofs.Answers.{first-is, then-is, none-of, state-fits, state-read, block-number, minus-fits, minus-read, untouched, Left, left}
+use Rattle.calls.proofs.Answers.{none-of, state-fits, state-read, block-number, minus-fits, minus-read, untouched, Left, left}
 use Rattle.calls.proofs.block.Statement.{statement}
 use Rattle.calls.proofs.block.Tie as tie
 

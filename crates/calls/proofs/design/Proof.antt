@@ -17,13 +17,13 @@ use Rattle.design.specs.declared.DesignError.the-variants.{SamplesPerSymbol, Ta
 use Rattle.design.specs.declared.SheetError.{SheetError}
 use Rattle.design.specs.Refusal.{Answer as Designed, accepted, sheetAnswer, designRefusal, sheetRefusal}
 use Rattle.design.specs.Design.{sheetOfDesign}
-use Rattle.places.specs.Answer.{answered}
+use Rattle.kinds.specs.Answer.{answered, firstNumber}
 use Rattle.places.specs.Sheet.{sheetWritten}
 use Rattle.places.specs.Rates.{designAt, gainsAt}
-use Rattle.places.proofs.Answered.{refuses}
+use Rattle.kinds.proofs.Answered.{refuses, first-is, then-is}
 use Rattle.places.proofs.Read.{Designed as Readable, design-refused, design-read}
-use Rattle.calls.specs.Calls.{firstNumber, refusedBy, writtenBy, designAnswer}
-use Rattle.calls.proofs.Answers.{first-is, then-is, then-answer}
+use Rattle.calls.specs.Calls.{refusedBy, writtenBy, designAnswer}
+use Rattle.calls.proofs.Answers.{then-answer}
 use Rattle.calls.proofs.design.Statement.{statement}
 use Rattle.calls.proofs.design.Tie as tie
 

@@ -6,8 +6,8 @@ use Rattle.params.specs.Refusal.{Refusal}
 use Rattle.params.specs.Judge.{sheetOf, judged}
 use Rattle.places.specs.Sheet.{sheetNumber}
 use Rattle.places.proofs.Read.{sheet-refused, sheet-read}
+use Rattle.kinds.proofs.Answered.{first-is, then-is}
 use Rattle.calls.specs.Calls.{judgeNumber, sheetAt}
-use Rattle.calls.proofs.Answers.{first-is, then-is}
 use Rattle.calls.proofs.judge.Statement.{statement}
 use Rattle.calls.proofs.judge.Tie as tie
 

@@ -15,10 +15,10 @@ use Rattle.params.specs.declared.Params.{Params}
 use Rattle.params.specs.Judge.{sheetOf}
 use Rattle.offset.specs.Offset.{Parts, offsetOf, offsetParts}
 use Rattle.places.specs.Sheet.{sheetNumber}
-use Rattle.places.proofs.Answered.{refuses, writes}
+use Rattle.kinds.proofs.Answered.{refuses, writes, first-is, then-is}
 use Rattle.places.proofs.Read.{Unread, Sheeted, sheet-refused, sheet-read}
-use Rattle.calls.specs.Calls.{firstNumber, sheetAt, offsetAnswer}
-use Rattle.calls.proofs.Answers.{first-is, then-is}
+use Rattle.kinds.specs.Answer.{firstNumber}
+use Rattle.calls.specs.Calls.{sheetAt, offsetAnswer}
 use Rattle.calls.proofs.offset.Statement.{statement}
 use Rattle.calls.proofs.offset.Tie as tie
 

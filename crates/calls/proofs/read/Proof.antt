@@ -25,11 +25,12 @@ use Rattle.state.specs.Check.{stateFaults}
 use Rattle.state.specs.Read.{Read, readOf, reading}
 use Rattle.places.specs.Sheet.{sheetNumber}
 use Rattle.places.specs.States.{stateFits, stateOf, readState}
-use Rattle.places.proofs.Answered.{refuses, writes}
+use Rattle.kinds.proofs.Answered.{refuses, writes, first-is, then-is}
 use Rattle.places.proofs.Read.{Unread, Sheeted, sheet-refused, sheet-read}
 use Rattle.places.proofs.Readable.{state-at}
-use Rattle.calls.specs.Calls.{firstNumber, sheetAt, stateNumber, readAnswer}
-use Rattle.calls.proofs.Answers.{first-is, then-is, first-more, none-of, state-fits, state-read, reading-number}
+use Rattle.kinds.specs.Answer.{firstNumber}
+use Rattle.calls.specs.Calls.{sheetAt, stateNumber, readAnswer}
+use Rattle.calls.proofs.Answers.{first-more, none-of, state-fits, state-read, reading-number}
 use Rattle.calls.proofs.read.Statement.{statement}
 use Rattle.calls.proofs.read.Tie as tie
 

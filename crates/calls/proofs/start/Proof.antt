@@ -9,13 +9,13 @@ use borrow.Author.Needs.{needs}
 use Rattle.params.specs.declared.Params.{Params}
 use Rattle.params.specs.Judge.{Sheet, sheetOf}
 use Rattle.state.specs.Start.{Start, startOf, started}
-use Rattle.places.specs.Answer.{answered}
+use Rattle.kinds.specs.Answer.{answered}
 use Rattle.places.specs.Sheet.{sheetNumber}
 use Rattle.places.specs.States.{numbersOf, stateWritten}
-use Rattle.places.proofs.Answered.{refuses}
+use Rattle.kinds.proofs.Answered.{refuses, first-is, then-is}
 use Rattle.places.proofs.Read.{Unread, Sheeted, sheet-refused, sheet-read}
 use Rattle.calls.specs.Calls.{sheetAt, startAnswer}
-use Rattle.calls.proofs.Answers.{first-is, then-is, then-answer, started-placed}
+use Rattle.calls.proofs.Answers.{then-answer, started-placed}
 use Rattle.calls.proofs.start.Statement.{statement}
 use Rattle.calls.proofs.start.Tie as tie
 

@@ -8,7 +8,7 @@ use lib.ListN.{length}
 use borrow.Author.Needs.{needs}
 use borrow.Author.Tests.{le-leb, lt-leb}
 use Rattle.places.specs.Sheet.{sheetWritten}
-use Rattle.places.proofs.Answered.{refuses, writes}
+use Rattle.kinds.proofs.Answered.{refuses, writes}
 use Rattle.places.proofs.sheet.write_sheet.Statement.{statement}
 use Rattle.places.proofs.sheet.write_sheet.Tie as tie
 

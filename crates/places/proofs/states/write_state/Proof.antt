@@ -13,7 +13,7 @@ use borrow.Author.Needs.{needs}
 use borrow.Author.Tests.{eq-eqb, ne-eqb, not-true, not-false}
 use Rattle.state.specs.declared.Frontend.{Frontend}
 use Rattle.places.specs.States.{firstNumbers, lineNumbers, pendingNumbers, numbersOf, hasPlaces, stateWritten}
-use Rattle.places.proofs.Answered.{refuses, writes}
+use Rattle.kinds.proofs.Answered.{refuses, writes}
 use Rattle.places.proofs.states.write_state.Statement.{statement}
 use Rattle.places.proofs.states.write_state.Tie as tie
 

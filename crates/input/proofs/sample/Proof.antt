@@ -1,4 +1,4 @@
--- `calls::sample` meets its contract: after n turns the components of the first n floats stand in the first n places.
+-- `input::sample` meets its contract: after n turns the components of the first n floats stand in the first n places.
 -- What is behind them is as it was (`lib.Seq`, `paste-suc`).
 use Prim.Native.Nat.{ℕ, suc, _+_, _-_, _%_, _≤_}
 use mathlib.Core.Path.{_≡_, refl, sym, _∙_}
@@ -17,12 +17,11 @@ use mir.Val.{toZ, ofZ}
 use borrow.Author.Needs.{needs}
 use borrow.Author.Tests.{eq-eqb, ne-eqb, le-leb, lt-leb}
 use Rattle.arith.proofs.Bits.{held}
-use Rattle.input.specs.Input.{componentOf}
-use Rattle.places.proofs.Answered.{refuses, writes}
-use Rattle.calls.specs.Calls.{firstNumber, sampleAnswer}
-use Rattle.calls.proofs.Answers.{first-is, then-is}
-use Rattle.calls.proofs.sample.Statement.{statement}
-use Rattle.calls.proofs.sample.Tie as tie
+use Rattle.kinds.proofs.Answered.{refuses, writes, first-is, then-is}
+use Rattle.kinds.specs.Answer.{firstNumber}
+use Rattle.input.specs.Input.{componentOf, sampleAnswer}
+use Rattle.input.proofs.sample.Statement.{statement}
+use Rattle.input.proofs.sample.Tie as tie
 
 abbrev Inv-loop : tie.InvT-loop
 Inv-loop floats values₀ n₀ values n = (n ≤ length floats) × (length values ≡ length values₀) × (values ≡ paste values₀ 0 (map componentOf floats) n)

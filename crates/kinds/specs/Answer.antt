@@ -12,3 +12,7 @@ pub record Answer : Type 0 where
 -- The places are written where nothing is refused, and stay as they were where something is.
 abbrev pub answered : ℕ → List ℤ → List ℤ → Answer
 answered number written places = record { number = number; places = cond (eqb number 0) written places }
+
+-- The first of two numbers of refusals, 0 standing for none.
+abbrev pub firstNumber : ℕ → ℕ → ℕ
+firstNumber a b = cond (eqb a 0) b a
