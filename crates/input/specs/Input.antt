@@ -20,7 +20,7 @@ unfoldable pub componentOf : Float → ℤ
 componentOf x = toSigned 11 (roundAway (mul binary32 x fullScale))
 
 -- Float samples: 10 for an odd number of floats, then 11 where there are fewer places than floats. Each float is a component by itself, and goes to the
--- place of its number.
+-- place of its number. (RULES 8.5)
 unfoldable pub sampleAnswer : List Float → List ℤ → Answer
 sampleAnswer floats places =
     answered (firstNumber (cond (eqb (length floats % 2) 0) 0 10) (cond (leb (length floats) (length places)) 0 11))
