@@ -74,6 +74,9 @@ for kind in designed extreme refused mixed; do
     replayed "judging and offsets, $kind sheets" replay_calls calls $kind 1 $((6000 * SCALE))
 done
 
+# Offsets alone: accepted sheets, each asked for ties and their neighbours, its ends, and rests next to a half.
+replayed "offsets, ties and ends among them" replay_calls offsets 1 $((4000 * SCALE))
+
 # The path: runs from a fresh start in blocks of all sizes, 1.3 million symbols in all. The driver also holds each answer of isdb-rs against its own reading.
 for kind in designed extreme mixed; do
     replayed "starting, blocks and readings, $kind sheets" replay_calls path $kind 1 $((700 * SCALE))

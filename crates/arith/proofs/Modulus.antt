@@ -1,10 +1,10 @@
 -- Remainders modulo 2^32. The machine's remainder has the sign of its dividend, so it is right or one modulus away; in terms of P and N that is a
 -- fact about remainders of naturals, which `omega` decides.
-use Prim.Native.Nat.{ℕ, suc, _+_, _/_, _%_, _^_, _≤_, _<_}
+use Prim.Native.Nat.{ℕ, suc, _+_, _%_, _^_, _≤_, _<_}
 use mathlib.Core.Path.{_≡_, refl}
 use native.Mathlib.Omega.{arith}
 use lib.IntN.{ℤ, pos, negsuc, _+ℤ_, _-ℤ_}
-use lib.Signed.{quotZ, remZ}
+use lib.Signed.{remZ}
 use mir.Syntax.{w64}
 use mir.Val.{SFits}
 use Rattle.arith.specs.Arith.{modZ, wrapI32}
@@ -24,13 +24,6 @@ rest-N (negsuc n) = neg-N (pos (suc n % 2 ^ 32))
 
 pub rest-fits : (v : ℤ) → SFits w64 (rest v)
 rest-fits v = pn-fit (omega (arith, rest-P v)) (omega (arith, rest-N v))
-
--- the quotient, which the machine checks beside it
-pub quot-fits : (v : ℤ) → SFits w64 v → SFits w64 (quotZ v (pos (2 ^ 32)))
-quot-fits (pos n) f = pn-fit (omega (arith, f .sfits)) (omega arith)
-quot-fits (negsuc n) f =
-    let q : ℤ = pos (suc n / 2 ^ 32) in
-    pn-fit (omega (arith, neg-P q)) (omega (arith, neg-N q, f .sfits))
 
 -- ---- unsigned: what modZ says of v, and that nothing else has it
 

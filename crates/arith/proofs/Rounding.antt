@@ -2,7 +2,7 @@
 -- number less its half rounded down. A shift past the last place of 64 bits leaves the sign alone, and R leaves 0.
 use Prim.Native.Nat.{ℕ, zero, suc, _+_, _-_, _*_, _/_, _^_, _≤_, _<_}
 use mathlib.Core.Path.{_≡_, refl, sym, ap, _∙_}
-use native.Mathlib.Nat.{le-refl, pow-suc, div-zero, div-eq-of-lt, div-div-eq-div-mul, add-div-right}
+use native.Mathlib.Nat.{le-refl, pow-suc, div-eq-of-lt, div-div-eq-div-mul, add-div-right}
 use native.Mathlib.Omega.{arith}
 use lib.IntN.{ℤ, pos, negsuc, negℤ, natAbs, _+ℤ_, _-ℤ_, +ℤ-idr}
 use lib.Signed.{mag, shrZ}
@@ -109,11 +109,6 @@ far a s h k = div-eq-of-lt (omega (arith, pow-mono k))
 pub shr-far : (v : ℤ) (s : ℕ) → mag v < 2 ^ 63 → 63 ≤ s → shrZ v (2 ^ s) ≡ shrZ v (2 ^ 63)
 shr-far (pos a) s h k = ap pos (far a s h k ∙ sym (far a 63 h (le-refl 63)))
 shr-far (negsuc a) s h k = ap negsuc (far a s h k ∙ sym (far a 63 h (le-refl 63)))
-
--- division by 0, which leaves 0 of a natural
-pub shr-zero : (v : ℤ) → mag v < 2 ^ 63 → shrZ v (2 ^ 63) ≡ shrZ v 0
-shr-zero (pos a) h = ap pos (far a 63 h (le-refl 63) ∙ sym (div-zero a))
-shr-zero (negsuc a) h = ap negsuc (far a 63 h (le-refl 63) ∙ sym (div-zero a))
 
 -- what is left before the last place is 0 or -1, of which the upper half is 0
 pub round-far : {k : ℕ} (v : ℤ) (s : ℕ) → mag v < 2 ^ k → k < s → roundShift v s ≡ pos 0

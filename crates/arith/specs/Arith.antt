@@ -1,9 +1,9 @@
 -- The path's arithmetic over ℤ, where nothing overflows. The functions of src/ are proved equal to these on every input.
 -- `shrZ z m` of the kit divides z by m and rounds down, also below zero: with m = 2 ^ s it is the shift right by s.
-use Prim.Native.Nat.{ℕ, _-_, _%_, _^_}
+use Prim.Native.Nat.{ℕ, zero, suc, _+_, _-_, _*_, _/_, _%_, _^_}
 use mathlib.Core.Bool.{Bool, cond, _&&_}
-use lib.Dec.{eqb}
-use lib.IntN.{ℤ, pos, negsuc, _+ℤ_, _-ℤ_}
+use lib.Dec.{eqb, ltb}
+use lib.IntN.{ℤ, pos, negsuc, negℤ, _+ℤ_, _-ℤ_}
 use lib.Signed.{ltZ, leZ, shrZ}
 
 -- R(v, s): v divided by 2^s and rounded to the nearest whole number, a half upward; nothing is done at s = 0.
@@ -31,6 +31,19 @@ modZ (negsuc n) m = m - 1 - n % m
 -- (RULES 2.5)
 unfoldable pub wrapI32 : ℤ → ℤ
 wrapI32 v = pos (modZ (v +ℤ pos (2 ^ 31)) (2 ^ 32)) -ℤ pos (2 ^ 31)
+
+-- The whole number nearest to a / d, and of two that are as near the larger: the whole part, and one more where at least a half is left.
+-- (RULES 2.6)
+unfoldable pub nearestUp : ℕ → ℕ → ℕ
+nearestUp a d = a / d + cond (ltb (2 * (a % d)) d) 0 1
+
+-- The whole number nearest to n / d, and of two that are as near the one farther from zero: below zero, the same of the sizes. Nothing is nearest to n / 0,
+-- and the answer is 0.
+-- (RULES 2.6)
+unfoldable pub nearestAway : ℤ → ℕ → ℤ
+nearestAway n zero = pos 0
+nearestAway (pos n) (suc d) = pos (nearestUp n (suc d))
+nearestAway (negsuc n) (suc d) = negℤ (pos (nearestUp (suc n) (suc d)))
 
 -- v lies from lo to hi.
 abbrev pub within : ℤ → ℤ → ℤ → Bool

@@ -5,7 +5,7 @@ ghost use mathlib.Core.Path.{_≡_};
 ghost use Prim.Native.Nat.{_^_, min};
 ghost use lib.IntN.{_*ℤ_};
 ghost use lib.Signed.{shrZ};
-ghost use Rattle.arith.specs.Arith.{roundShift, clampZ, sat16Z, modZ, wrapI32, orZero, narrowI16, narrowI32};
+ghost use Rattle.arith.specs.Arith.{roundShift, clampZ, sat16Z, modZ, wrapI32, nearestAway, orZero, narrowI16, narrowI32};
 
 // round(v / 2^s), a half upward; v for s = 0. The last bit that is shifted out decides, so it is
 // enough to look at v a place before: that number less its half, which cannot overflow.
@@ -43,17 +43,16 @@ pub fn shift_right(v: i64, s: u32) -> i64
     v >> s
 }
 
-// n / m, rounded down. By 0 it leaves what a shift past the last place leaves: the sign.
-pub fn divide_down(n: i64, m: u32) -> i64
-    ensures { λ r. ⌜ r ≡ shrZ n m ⌝ }
+// n / m, rounded to the nearest whole number, ties away from zero; by 0 it is 0. Both quotients are cut toward zero, and twice the rest holds m once where at
+// least a half is left.
+pub fn divide_nearest(n: i64, m: u32) -> i64
+    ensures { λ r. ⌜ r ≡ nearestAway n m ⌝ }
 {
     if m == 0 {
-        return n >> 63;
+        return 0;
     }
-    if n < 0 {
-        return -1 - (-1 - n) / (m as i64);
-    }
-    n / (m as i64)
+    let d = m as i64;
+    n / d + 2 * (n % d) / d
 }
 
 // v, held between lo and hi.

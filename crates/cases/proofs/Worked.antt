@@ -1,6 +1,6 @@
 -- Each case holds because antt computes both of its sides to the same value.
 use mathlib.Core.Path.{refl}
-use Rattle.arith.specs.Arith.{roundShift, clampZ, modZ, wrapI32}
+use Rattle.arith.specs.Arith.{roundShift, clampZ, modZ, wrapI32, nearestUp, nearestAway}
 use Rattle.tables.specs.Wheel.{quarter, wheel}
 use Rattle.params.specs.Banks.{rowOf, coefficientFaults, magnitudes, rowFaults, rowsFaults, detectorPlace, zeroOutside, rowsOutside, bankFaults}
 use Rattle.params.specs.Judge.{goodTaps, goodLength, lengthFaults, goodPeriods, fieldFaults, faults, judged}
@@ -18,10 +18,10 @@ use lib.Ieee.{round, neg, mul, div, lt, le, eq, toUnsigned, toSigned}
 use mathlib.Core.List.{flatten}
 
 pub worked : Worked
-unfolding flatten roundShift clampZ modZ wrapI32 quarter wheel goodTaps goodLength rowOf coefficientFaults magnitudes rowFaults rowsFaults detectorPlace
-    zeroOutside lengthFaults bankFaults rowsOutside goodPeriods fieldFaults faults judged partsOf offsetOf mixed quantised gainError rows paramsWith
-    plainSheet sheet firstOfK placesFrom round neg mul div lt le eq toUnsigned toSigned roundAway hundredths spsOf periodNominal atLeastMin periodMin
-    periodMax integratorMax ncoStep agcTarget registersOf goodSps goodTrim designFaults designOf twoSamples registersWith
+unfolding flatten roundShift clampZ modZ wrapI32 nearestUp nearestAway quarter wheel goodTaps goodLength rowOf coefficientFaults magnitudes rowFaults rowsFaults
+    detectorPlace zeroOutside lengthFaults bankFaults rowsOutside goodPeriods fieldFaults faults judged partsOf offsetOf mixed quantised gainError rows
+    paramsWith plainSheet sheet firstOfK placesFrom round neg mul div lt le eq toUnsigned toSigned roundAway hundredths spsOf periodNominal atLeastMin
+    periodMin periodMax integratorMax ncoStep agcTarget registersOf goodSps goodTrim designFaults designOf twoSamples registersWith
 worked = record {
   round-down = refl;
   round-up = refl;
@@ -37,8 +37,10 @@ worked = record {
   most-passes = refl;
   most-refused = refl;
   detector = refl;
-  offset-above = refl;
-  offset-below = refl;
+  offset-slow = refl;
+  offset-fast = refl;
+  tie-slow = refl;
+  tie-fast = refl;
   registers-at-two = refl;
   error-wraps = refl;
 }

@@ -12,16 +12,13 @@ use lib.Ieee.{Float, nan, inf, fin, up, down, lt, eq, le, toSigned}
 use lib.Ieee.Fits.{down-pos}
 use lib.Ieee.Exact.{HasValue}
 use lib.Ieee.Nearest.{div-same}
+use Rattle.arith.proofs.Signs.{signed}
 
 abbrev pub top : ℕ → Float
 top h = fin false 1 (pos h)
 
 abbrev pub bottom : ℕ → Float
 bottom h = fin true 1 (pos h)
-
--- a whole number of a sign and a size
-abbrev pub signed : Bool → ℕ → ℤ
-signed s n = cond s (negℤ (pos n)) (pos n)
 
 lt-le : (x y : Float) → T (lt x y) → T (le x y)
 unfolding le

@@ -15,23 +15,21 @@ use mir.Syntax.{w64}
 use mir.Val.{SFits, toZ, ofZ}
 use mir.Facts.{toZ-ofZ}
 use borrow.Author.Tests.{ltb-true, ltb-false}
-use Rattle.arith.proofs.Order.{add-pn, neg-P, neg-N, eq-pn}
-use Rattle.floats.specs.Whole.{nearestUp, roundAway}
+use Rattle.arith.specs.Arith.{nearestUp}
+use Rattle.arith.proofs.Signs.{signed, add-signed, quot-signed, rem-signed, size-fits, quot-fits}
+use Rattle.arith.proofs.Nearest.{half-left}
+use Rattle.floats.specs.Whole.{roundAway}
 use Rattle.floats.proofs.Doubled.{few-digits, double}
-use Rattle.floats.proofs.Ends.{top, bottom, signed, inside, below-bottom, above-top, Within, within}
+use Rattle.floats.proofs.Ends.{top, bottom, inside, below-bottom, above-top, Within, within}
 
 -- ---- on natural numbers
 
 -- twice a / d is twice its whole part, and one more where at least a half is left
 halves : (a d : ℕ) → 0 < d → 2 * a / d ≡ 2 * (a / d) + cond (ltb (2 * (a % d)) d) 0 1
-halves a d D = ap (λ (n : ℕ). n / d) parts ∙ mul-add-div D (2 * (a / d)) (2 * (a % d)) ∙ ap (λ (k : ℕ). 2 * (a / d) + k) (go (ltb (2 * (a % d)) d) refl)
+halves a d D = ap (λ (n : ℕ). n / d) parts ∙ mul-add-div D (2 * (a / d)) (2 * (a % d)) ∙ ap (λ (k : ℕ). 2 * (a / d) + k) (half-left a d D)
   where
     parts : 2 * a ≡ d * (2 * (a / d)) + 2 * (a % d)
     parts = omega (arith, div-add-mod a d, mul-left-comm d 2 (a / d))
-
-    go : (b : Bool) → ltb (2 * (a % d)) d ≡ b → 2 * (a % d) / d ≡ cond b 0 1
-    go true e = div-eq-of-lt (ltb-true (2 * (a % d)) d e)
-    go false e = div-eq-of-lt-le d (omega (arith, ltb-false (2 * (a % d)) d e)) (omega (arith, mod-lt a D))
 
 half-up : (q : ℕ) (b : Bool) → (2 * q + cond b 0 1) / 2 + (2 * q + cond b 0 1) % 2 ≡ q + cond b 0 1
 half-up q true = omega arith
@@ -47,42 +45,21 @@ nearest-whole a d e = rw e (rw (mod-one a) (omega arith))
 
 -- ---- the same with a sign, as the machine divides
 
-join : (s : Bool) (a b : ℕ) → signed s a +ℤ signed s b ≡ signed s (a + b)
-join false a b = refl
-join true a b =
-    eq-pn (negℤ (pos a) +ℤ negℤ (pos b)) (negℤ (pos (a + b)))
-    (omega (arith, add-pn (negℤ (pos a)) (negℤ (pos b)), neg-P (pos a), neg-N (pos a), neg-P (pos b), neg-N (pos b), neg-P (pos (a + b)), neg-N (pos (a + b))))
-
-quot-signed : (s : Bool) (q : ℕ) → quotZ (signed s q) (pos 2) ≡ signed s (q / 2)
-quot-signed false q = refl
-quot-signed true zero = refl
-quot-signed true (suc q) = refl
-
-rem-signed : (s : Bool) (q : ℕ) → remZ (signed s q) (pos 2) ≡ signed s (q % 2)
-rem-signed false q = refl
-rem-signed true zero = refl
-rem-signed true (suc q) = refl
-
-signed-fits : (s : Bool) (n : ℕ) → n < 2 ^ 63 → SFits w64 (signed s n)
-signed-fits false n l = record { sfits = l }
-signed-fits true zero l = record { sfits = l }
-signed-fits true (suc n) l = record { sfits = omega arith }
-
 small-half : (q : ℕ) → q < 2 ^ 63 → q / 2 + q % 2 < 2 ^ 63
 small-half q l = omega arith
 
 pub quotient-fits : (s : Bool) (q : ℕ) → q < 2 ^ 63 → {z : ℤ} → z ≡ signed s q → SFits w64 (quotZ z (pos 2))
-quotient-fits s q l e = rw e (rw (quot-signed s q) (signed-fits s (q / 2) (omega arith)))
+quotient-fits s q l e = rw e (quot-fits (signed s q) 2 (size-fits s q l))
 
 -- quotient and rest, read back and added
 pub half-of : (s : Bool) (q : ℕ) → q < 2 ^ 63 → {z : ℤ} → z ≡ signed s q
     → toZ w64 (ofZ w64 (quotZ z (pos 2))) +ℤ toZ w64 (ofZ w64 (remZ z (pos 2))) ≡ signed s (q / 2 + q % 2)
 half-of s q l e =
-    rw e (rw (quot-signed s q, rem-signed s q)
-    (rw (toZ-ofZ (signed-fits s (q / 2) (omega arith)), toZ-ofZ (signed-fits s (q % 2) (omega arith))) (join s (q / 2) (q % 2))))
+    rw e (rw (quot-signed s q 2, rem-signed s q 2)
+    (rw (toZ-ofZ (size-fits {w = w64} s (q / 2) (omega arith)), toZ-ofZ (size-fits {w = w64} s (q % 2) (omega arith))) (add-signed s (q / 2) (q % 2))))
 
 pub half-fits : (s : Bool) (q : ℕ) → q < 2 ^ 63 → {z : ℤ} → z ≡ signed s (q / 2 + q % 2) → SFits w64 z
-half-fits s q l e = rw e (signed-fits s (q / 2 + q % 2) (small-half q l))
+half-fits s q l e = rw e (size-fits s (q / 2 + q % 2) (small-half q l))
 
 -- ---- floats between -2^62 and 2^62: twice such a one is in the range of a cast, and is halved to the nearest whole number
 

@@ -5,7 +5,7 @@ use mathlib.Core.Bool.{cond, _&&_}
 use mathlib.Core.List.{[], _++_}
 use lib.Dec.{leb, eqb}
 use lib.IntN.{ℤ, pos, _-ℤ_, _*ℤ_}
-use lib.Signed.{shrZ}
+use Rattle.arith.specs.Arith.{nearestAway}
 use Rattle.params.specs.declared.Params.{Params}
 use Rattle.offset.specs.declared.Offset.{Offset}
 use Rattle.offset.specs.declared.OffsetVerdict.{OffsetVerdict}
@@ -26,9 +26,10 @@ offsetRefusal OffsetVerdict.Period = refusal 13 []
 abbrev pub offsetParts : Offset → Parts
 offsetParts o = record { refused = offsetRefusal (o .verdict); parts = o .parts }
 
--- How far the period lies from the nominal one, in parts per thousand million of that, rounded down.
+-- How much longer the nominal period is, in parts per thousand million of the period, to the nearest whole number, ties away from zero: as much as the sender's
+-- rate is above the nominal one, in parts per thousand million of the nominal rate. Positive where the sender is fast.
 unfoldable pub partsOf : Params → ℕ → ℤ
-partsOf p period = shrZ ((pos period -ℤ pos (p .«period_nominal»)) *ℤ pos 1000000000) (p .«period_nominal»)
+partsOf p period = nearestAway ((pos (p .«period_nominal») -ℤ pos period) *ℤ pos 1000000000) period
 
 -- The answer: after 1 to 8, 13 for a period outside the sheet's bounds; 0 parts where it is refused.
 unfoldable pub offsetOf : Sheet → ℕ → Parts

@@ -1,4 +1,4 @@
-// The offset of a period from the nominal one: how far the sender's clock is from the receiver's (RULES 6.1).
+// The offset of a period from the nominal one: how fast the sender's clock is beside the receiver's (RULES 6.1).
 use params::ParamError;
 use params::Params;
 use params::Verdict;
@@ -33,7 +33,7 @@ impl OffsetVerdict {
     }
 }
 
-// How far a period lies from the nominal one (RULES 6.1).
+// How fast a sender of this period is (RULES 6.1).
 pub fn of_period(p: Params, h: &[i32], g: &[i32], k: &[i32], period: u32) -> Offset
     ensures { λ r. ⌜ offsetParts r ≡ offsetOf (sheetOf p (now (h .entry)) (now (g .entry)) (now (k .entry))) period ⌝ }
 {
@@ -56,12 +56,10 @@ pub fn of_period(p: Params, h: &[i32], g: &[i32], k: &[i32], period: u32) -> Off
     }
 }
 
-// The division rounds down: a period just below the nominal one is a part short of it, never level with it.
+// How much longer the nominal period is, in parts of the period: a sender with the shorter period is the faster one, so positive is fast.
 fn parts_of(p: Params, period: u32) -> i64
     ensures { λ r. ⌜ r ≡ partsOf p period ⌝ }
 {
-    arith::divide_down(
-        (period as i64 - p.period_nominal as i64) * 1_000_000_000,
-        p.period_nominal,
-    )
+    let longer = p.period_nominal as i64 - period as i64;
+    arith::divide_nearest(longer * 1_000_000_000, period)
 }

@@ -8,6 +8,7 @@ pub mod floats;
 pub mod generate;
 pub mod inputs;
 pub mod leaves;
+pub mod offsets;
 pub mod path;
 pub mod program;
 pub mod random;

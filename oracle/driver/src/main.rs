@@ -1,6 +1,8 @@
 //! Asks the Rust front end of isdb-rs, text in and text out. README.md beside this folder has the formats.
 
-use oracle::{against, calls, design, floats, generate, leaves, path, program, sheet, states};
+use oracle::{
+    against, calls, design, floats, generate, leaves, offsets, path, program, sheet, states,
+};
 use oracle::{number, usage};
 use std::io::{self, BufRead, BufWriter, Write};
 use std::process::ExitCode;
@@ -18,6 +20,7 @@ oracle: asks the Rust front end of isdb-rs
   oracle input                        standard input: f32 by their bits in hexadecimal; the sample of each
   oracle sheets KIND SEED COUNT       sheets for `validate`
   oracle calls KIND SEED COUNT        sheets with what judging them and offsets of periods answer, for replay_calls
+  oracle offsets SEED COUNT           accepted sheets, each with 64 offsets, many of them ties, for replay_calls
   oracle path KIND SEED COUNT         sheets, each run from its start in blocks, for replay_calls
   oracle states KIND SEED COUNT       states that no run reaches, with what a block and a reading make of them,
                                       for replay_calls
@@ -61,6 +64,7 @@ fn run(words: &[&str], input: impl BufRead, output: &mut impl Write) -> io::Resu
             generate::sheets(kind, number(seed)?, number(count)?, output)
         }
         ["calls", kind, seed, count] => calls::write(kind, number(seed)?, number(count)?, output),
+        ["offsets", seed, count] => offsets::write(number(seed)?, number(count)?, output),
         ["path", kind, seed, count] => path::write(kind, number(seed)?, number(count)?, output),
         ["states", kind, seed, count] => states::write(kind, number(seed)?, number(count)?, output),
         ["samples", step] => floats::samples(number(step)?, output),

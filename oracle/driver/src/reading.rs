@@ -55,7 +55,9 @@ impl<'a> Reading<'a> {
         &self.refusal
     }
 
-    /// How far a period lies from the nominal one, in thousand millionths of that, rounded down; and the number of the refusal or 0.
+    /// How much faster than nominal a sender of this period is: what the nominal period has more than this one, in
+    /// thousand millionths of this one, to the nearest whole number; where two are as near, the one farther from zero.
+    /// A slow sender has a number below zero. With it comes the number of the refusal or 0.
     pub fn offset(&self, period: u32) -> (i64, i64) {
         let sheet = self.sheet;
         if let Some(number) = self.refusal.first() {
@@ -64,9 +66,13 @@ impl<'a> Reading<'a> {
         if !(sheet.period_min..=sheet.period_max).contains(&period) {
             return (0, 13);
         }
-        let nominal = i128::from(sheet.period_nominal);
-        let parts = (i128::from(period) - nominal) * 1_000_000_000;
-        (parts.div_euclid(nominal) as i64, 0)
+        let period = i128::from(period);
+        let more = i128::from(sheet.period_nominal) - period;
+        // The size is rounded by itself and the sign put back, so what is half a part or more goes away from zero.
+        let size = more.abs() * 1_000_000_000;
+        let (whole, rest) = (size / period, size % period);
+        let nearest = if 2 * rest >= period { whole + 1 } else { whole };
+        ((more.signum() * nearest) as i64, 0)
     }
 
     /// The state that starting gives: zeros under a sheet that is refused.

@@ -11,12 +11,13 @@ use mir.Syntax.{w32, w64}
 use mir.Val.{SFits}
 use mir.Facts.{toZ-ofZ}
 use Rattle.arith.proofs.Order.{P, N, add-pn, nat-pn, lt-pn, ge-pn, pn-fit, unsign}
-use Rattle.arith.proofs.Modulus.{rest, rest-P, rest-N, rest-fits, quot-fits, Modulo, mod-only}
+use Rattle.arith.proofs.Signs.{quot-fits}
+use Rattle.arith.proofs.Modulus.{rest, rest-P, rest-N, rest-fits, Modulo, mod-only}
 use Rattle.arith.proofs.wrap_u32.Statement.{statement}
 use Rattle.arith.proofs.wrap_u32.Tie as tie
 
 rem-rest : tie.Need-rem-rest
-rem-rest c = simp (toZ-ofZ (c .fits .v)) (lit< tt, quot-fits (c .args .v) (c .fits .v))
+rem-rest c = simp (toZ-ofZ (c .fits .v)) (lit< tt, quot-fits (c .args .v) (2 ^ 32) (c .fits .v))
 
 -- ---- the remainder is below zero: one modulus more
 

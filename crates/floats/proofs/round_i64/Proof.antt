@@ -9,7 +9,8 @@ use mir.Facts.{toZ-ofZ}
 use borrow.Author.Needs.{needs}
 use borrow.Author.Tests.{not-false}
 use Rattle.arith.proofs.Bits.{held}
-use Rattle.floats.proofs.Ends.{top, bottom, signed}
+use Rattle.arith.proofs.Signs.{signed}
+use Rattle.floats.proofs.Ends.{top, bottom}
 use Rattle.floats.proofs.Rounded.{Halved, halved-of, quotient-fits, half-of, half-fits, stays-above, stays-below}
 use Rattle.floats.proofs.round_i64.Statement.{statement}
 use Rattle.floats.proofs.round_i64.Tie as tie

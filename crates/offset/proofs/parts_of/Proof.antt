@@ -28,42 +28,42 @@ read a b f g = simp (whole a f, whole b g)
 subtracted : (a b : ℕ) → Fits w32 a → Fits w32 b → toZ w64 (ofZ w64 (toZ w64 a -ℤ toZ w64 b)) ≡ pos a -ℤ pos b
 subtracted a b f g = simp (read a b f g, toZ-ofZ (difference-fits a b f g))
 
-cast-divide-down : tie.Need-cast-divide-down
-cast-divide-down c = search needs
+cast-longer : tie.Need-cast-longer
+cast-longer c = search needs
 
-cast-divide-down-2 : tie.Need-cast-divide-down-2
-cast-divide-down-2 c = search needs
+cast-longer-2 : tie.Need-cast-longer-2
+cast-longer-2 c = search needs
 
-sub-divide-down : tie.Need-sub-divide-down
-sub-divide-down c =
-    let f = c .before .fits .period in
-    let g = c .struct-known .given .1 .1 .0 in
+sub-longer : tie.Need-sub-longer
+sub-longer c =
+    let f = c .struct-known .given .1 .1 .0 in
+    let g = c .before .fits .period in
     rw (read _ _ f g) (difference-fits _ _ f g)
 
-mul-divide-down : tie.Need-mul-divide-down
-mul-divide-down c =
-    let f = c .before .fits .period in
-    let g = c .struct-known .given .1 .1 .0 in
+mul-divide-nearest : tie.Need-mul-divide-nearest
+mul-divide-nearest c =
+    let f = c .struct-known .given .1 .1 .0 in
+    let g = c .before .fits .period in
     rw (subtracted _ _ f g) (product-fits _ _ f g)
 
-divide-down-requires : tie.Need-divide-down-requires
-divide-down-requires c κs = search needs
+divide-nearest-requires : tie.Need-divide-nearest-requires
+divide-nearest-requires c κs = search needs
 
 returns : tie.Need-returns
 unfolding partsOf
 returns c =
-    let f = c .before .before .fits .period in
-    let g = c .before .struct-known .given .1 .1 .0 in
-    let told : c .divide-down .result ≡ _ = simp (subtracted _ _ f g, toZ-ofZ (product-fits _ _ f g)) at (c .divide-down .ensures) in
-    held w64 (c .divide-down .result) (c .divide-down .ok) ∙ told
+    let f = c .before .struct-known .given .1 .1 .0 in
+    let g = c .before .before .fits .period in
+    let told : c .divide-nearest .result ≡ _ = simp (subtracted _ _ f g, toZ-ofZ (product-fits _ _ f g)) at (c .divide-nearest .ensures) in
+    held w64 (c .divide-nearest .result) (c .divide-nearest .ok) ∙ told
 
 pub parts-of-spec : {M : Type 1} → statement M
 parts-of-spec =
     tie.close
     (tie.spec
-    cast-divide-down
-    cast-divide-down-2
-    sub-divide-down
-    mul-divide-down
-    divide-down-requires
+    cast-longer
+    cast-longer-2
+    sub-longer
+    mul-divide-nearest
+    divide-nearest-requires
     returns)
