@@ -216,8 +216,11 @@ uint32_t huntelm_read(const int64_t *sheet, size_t sheet_len, const int32_t *h, 
                       const int64_t *state, size_t state_len, int64_t *answer, size_t answer_len);
 
 /*
- * Writes how far a period is from the nominal one, in parts per thousand million, rounded down, to the first place of answer. Answers 0. Ask it for the mean of
- * the periods of thousands of symbols; for the period of one symbol or of a reading the answer says nothing of a clock.
+ * Writes how fast a sender of this period is to the first place of answer: (period_nominal - period) * 10^9 / period, to the nearest whole number, ties away
+ * from zero. That is its rate offset in parts per thousand million, positive where the sender is fast. Answers 0.
+ *
+ * Ask it for the mean of the periods of thousands of symbols, which is the clock's offset. For the period of one symbol or of a reading the answer is noise,
+ * since such a period has the loop's proportional term in it.
  *
  * Refusals, in order: 18, 19, 1 to 8; 13; 11 answer_len is 0.
  */

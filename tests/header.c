@@ -151,9 +151,11 @@ static void offset(void) {
     expect("a period that no loop sets", huntelm_offset(FULL, 34225521, out, OUT), HUNTELM_REFUSED_PERIOD);
     expect("no place", huntelm_offset(FULL, 33554465, out, 0), HUNTELM_REFUSED_SHORT_OUTPUT);
     expect("nothing is written", written(), 0);
-    expect("offset", huntelm_offset(FULL, 33554399, out, OUT), HUNTELM_ACCEPTED);
-    expect("parts", out[0], -984);
+    expect("offset", huntelm_offset(FULL, 33554465, out, OUT), HUNTELM_ACCEPTED);
+    expect("a slow sender", out[0], -983);
     expect("one place", written(), 1);
+    expect("offset", huntelm_offset(FULL, 33554399, out, OUT), HUNTELM_ACCEPTED);
+    expect("a fast sender", out[0], 983);
 }
 
 /* With length 0 a pointer may be NULL. */

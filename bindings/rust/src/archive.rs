@@ -203,7 +203,7 @@ impl Sheet<'_> {
         }
     }
 
-    /// Writes how far a period is from the nominal one.
+    /// Writes how fast a sender of this period is.
     pub fn offset(self, period: u32, answer: &mut [i64]) -> u32 {
         // SAFETY: slices; the one for writing is a `&mut`.
         unsafe {

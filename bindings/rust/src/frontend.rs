@@ -21,8 +21,8 @@ pub struct Symbol {
     pub yk: [i16; 2],
     /// The gain in force, 1024 for a gain of 1.
     pub gain: u16,
-    /// The period in force, 2^24 to the sample. It has the correction for one noisy error in it: how far the clocks are apart is said by the mean
-    /// over thousands of symbols, see [`Params::offset`].
+    /// The period in force, 2^24 to the sample. It has the correction for one noisy error in it: how fast the sender is, is said by the mean over
+    /// thousands of symbols, see [`Params::offset`].
     pub period: u32,
     /// `y` times the gain.
     pub z: [i16; 2],

@@ -97,16 +97,18 @@ impl Params {
         Refusal::check(self.sheet(&self.places()).judge())
     }
 
-    /// How far a period is from the nominal one, in parts per thousand million, rounded down.
+    /// How fast a sender of this period is: (period_nominal − period) × 10^9 / period, to the nearest whole number, ties away from zero. That is its rate
+    /// offset in parts per thousand million, positive where the sender is fast.
     ///
-    /// The period of one symbol has the loop's correction for one noisy error in it and jumps by thousands of parts in a million; its offset says nothing
-    /// of a clock. Ask for the mean of the periods of thousands of symbols, once the loop has locked:
+    /// The period of one symbol has the loop's proportional term in it, the correction for one noisy error, and jumps by thousands of parts in a million:
+    /// its offset is noise. That of the mean over thousands of symbols, once the loop has locked, is the clock's:
     ///
     /// ```
     /// # use huntelm::{Params, Refusal, Symbol};
     /// fn clock_offset(params: &Params, symbols: &[Symbol]) -> Result<i64, Refusal> {
+    ///     let count = symbols.len() as u64;
     ///     let sum: u64 = symbols.iter().map(|s| u64::from(s.period)).sum();
-    ///     params.offset((sum / symbols.len() as u64) as u32)
+    ///     params.offset(((sum + count / 2) / count) as u32)
     /// }
     /// ```
     ///

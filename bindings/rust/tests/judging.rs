@@ -95,11 +95,16 @@ fn offset() {
     let mut p = good();
     (p.period_min, p.period_nominal, p.period_max) = (32883343, 33554432, 34225520);
     assert_eq!(p.offset(33554432), Ok(0));
-    assert_eq!(p.offset(33554465), Ok(983));
-    assert_eq!(p.offset(33554399), Ok(-984));
-    assert!(p.offset(p.period_min).is_ok() && p.offset(p.period_max).is_ok());
+    assert_eq!(p.offset(33554465), Ok(-983));
+    assert_eq!(p.offset(33554399), Ok(983));
+    assert_eq!(p.offset(p.period_min), Ok(20408174));
+    assert_eq!(p.offset(p.period_max), Ok(-19607825));
     for period in [0, p.period_min - 1, p.period_max + 1, u32::MAX] {
         assert_eq!(p.offset(period), Err(Refusal::Period));
+    }
+    for (nominal, tie) in [(33587200, 976563), (33521664, -976563)] {
+        p.period_nominal = nominal;
+        assert_eq!(p.offset(33554432), Ok(tie));
     }
 }
 

@@ -26,7 +26,9 @@ by-rest a d D = ap (λ (k : ℕ). a / d + k) (half-left a d D)
 
 -- what is taken more is no larger than the rest: 0 where none is left, and else at most 1
 pub no-larger : (a d : ℕ) → 0 < d → a / d + 2 * (a % d) / d ≤ a
-no-larger a d D = let q : a / d ≤ d * (a / d) = omega (arith, le-mul-of-pos-right (a / d) D, mul-comm d (a / d)) in omega (arith, div-add-mod a d, least (a % d) refl)
+no-larger a d D =
+    let whole : a / d ≤ d * (a / d) = omega (arith, le-mul-of-pos-right (a / d) D, mul-comm d (a / d)) in
+    omega (arith, div-add-mod a d, least (a % d) refl)
   where
     one : (b : Bool) → cond b 0 1 ≤ 1
     one true = omega arith

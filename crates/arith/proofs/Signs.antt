@@ -1,7 +1,7 @@
 -- A number as a sign and a size. Sums of one sign, products by a natural and the machine's quotient and remainder keep the sign and act on the size, so that a
 -- fact of ℤ about them is one of ℕ; and a number no larger than one that fits fits too.
 use Prim.Native.Nat.{ℕ, zero, suc, _+_, _*_, _/_, _%_, _^_, _≤_, _<_}
-use mathlib.Core.Path.{_≡_, refl, ap}
+use mathlib.Core.Path.{_≡_, refl}
 use mathlib.Core.Bool.{Bool, true, false, not, cond}
 use native.Mathlib.Nat.{mul-zero, zero-div, zero-mod, div-le-self}
 use native.Mathlib.Omega.{arith}

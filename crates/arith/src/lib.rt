@@ -1,4 +1,4 @@
-// The arithmetic of the path: rounding, clamps, shifts, reductions and narrower types of signed integers.
+// The arithmetic of the path: rounding, quotients, clamps, shifts, reductions and narrower types of signed integers.
 //
 // Every function here is total. It answers for each input what its definition over ℤ says (specs/Arith.antt), and no caller owes it anything.
 ghost use mathlib.Core.Path.{_≡_};

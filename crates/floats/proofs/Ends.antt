@@ -1,7 +1,7 @@
 -- The ends -2^h and 2^h of a signed range: what a float's tests against them say of its size, and what a cast to h bits and a sign makes of it.
 use Prim.Native.Nat.{ℕ, suc, _+_, _-_, _*_, _/_, _^_, _≤_, _<_, min}
 use mathlib.Core.Path.{_≡_, refl, sym, ap, _∙_}
-use mathlib.Core.Bool.{Bool, true, false, not, cond, _||_}
+use mathlib.Core.Bool.{Bool, true, false, not, _||_}
 use native.Mathlib.Nat.{mul-one, one-mul, zero-mul, mul-pos, mul-right-comm, min-eq-left, min-eq-right, div-lt-iff-lt-mul, le-div-iff-mul-le, le-of-lt}
 use native.Mathlib.Nat.{le-of-eq, lt-of-le-of-lt, lt-of-lt-of-le, lt-of-mul-lt-mul-right, mul-lt-mul-of-pos-right}
 use native.Mathlib.Omega.{arith}

@@ -1,10 +1,9 @@
 -- Rounding by doubling: half of twice a number's whole part, taken upward, is the nearest whole number, ties up. And where a float is large it is whole
 -- already.
-use Prim.Native.Nat.{ℕ, zero, suc, _+_, _-_, _*_, _/_, _%_, _^_, _≤_, _<_, min}
+use Prim.Native.Nat.{ℕ, suc, _+_, _-_, _*_, _/_, _%_, _^_, _≤_, _<_, min}
 use mathlib.Core.Path.{_≡_, refl, sym, ap, _∙_}
 use mathlib.Core.Bool.{Bool, true, false, not, cond}
-use native.Mathlib.Nat.{mul-left-comm, div-add-mod, mod-lt, mul-add-div, div-eq-of-lt, div-eq-of-lt-le, div-one, mod-one, mul-one, lt-of-lt-of-le}
-use native.Mathlib.Nat.{mul-le-mul-right, div-lt-iff-lt-mul}
+use native.Mathlib.Nat.{mul-left-comm, div-add-mod, mul-add-div, div-one, mod-one, mul-one, lt-of-lt-of-le, mul-le-mul-right, div-lt-iff-lt-mul}
 use native.Mathlib.Omega.{arith}
 use lib.Dec.{T, ltb, lit≤}
 use lib.IntN.{ℤ, pos, negsuc, negℤ, _+ℤ_}
@@ -14,7 +13,6 @@ use lib.Ieee.Fits.{down-pos}
 use mir.Syntax.{w64}
 use mir.Val.{SFits, toZ, ofZ}
 use mir.Facts.{toZ-ofZ}
-use borrow.Author.Tests.{ltb-true, ltb-false}
 use Rattle.arith.specs.Arith.{nearestUp}
 use Rattle.arith.proofs.Signs.{signed, add-signed, quot-signed, rem-signed, size-fits, quot-fits}
 use Rattle.arith.proofs.Nearest.{half-left}
