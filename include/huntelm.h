@@ -14,8 +14,8 @@
  *
  * What a period says
  *   The period of one symbol, or of a state, has the loop's correction for one noisy error in it, and jumps by thousands of parts in a million from symbol to
- *   symbol. How far the sender's clock and the recorder's are apart is said by the mean of the periods of thousands of symbols, once the loop has locked.
- *   That it has locked no call says: look at the spread of the output's size (docs/GUIDE.md).
+ *   symbol. What says how fast the sender's clock is beside the recorder's is the mean of the periods of thousands of symbols, once the loop has locked
+ *   (huntelm_offset). That it has locked no call says: look at the spread of the output's size (docs/GUIDE.md).
  *
  * What the calls owe you
  *   No values and no lengths are wrong to call with. Whatever is lent, a call answers, and where something is wrong it answers the number of the
@@ -216,11 +216,11 @@ uint32_t huntelm_read(const int64_t *sheet, size_t sheet_len, const int32_t *h, 
                       const int64_t *state, size_t state_len, int64_t *answer, size_t answer_len);
 
 /*
- * Writes how fast a sender of this period is to the first place of answer: (period_nominal - period) * 10^9 / period, to the nearest whole number, ties away
+ * Writes to the first place of answer how fast a sender of this period is: (period_nominal - period) * 10^9 / period, to the nearest whole number, ties away
  * from zero. That is its rate offset in parts per thousand million, positive where the sender is fast. Answers 0.
  *
- * Ask it for the mean of the periods of thousands of symbols, which is the clock's offset. For the period of one symbol or of a reading the answer is noise,
- * since such a period has the loop's proportional term in it.
+ * Ask it for the mean of the periods of thousands of symbols: what it writes is then the clock's offset. For the period of one symbol or of a reading it is
+ * noise, since such a period has the loop's proportional term in it.
  *
  * Refusals, in order: 18, 19, 1 to 8; 13; 11 answer_len is 0.
  */

@@ -21,7 +21,7 @@ pub struct Symbol {
     pub yk: [i16; 2],
     /// The gain in force, 1024 for a gain of 1.
     pub gain: u16,
-    /// The period in force, 2^24 to the sample. It has the correction for one noisy error in it: how fast the sender is, is said by the mean over
+    /// The period in force, 2^24 to the sample. It has the correction for one noisy error in it; what says how fast the sender is, is the mean over
     /// thousands of symbols, see [`Params::offset`].
     pub period: u32,
     /// `y` times the gain.

@@ -106,7 +106,7 @@ impl Params {
     /// ```
     /// # use huntelm::{Params, Refusal, Symbol};
     /// fn clock_offset(params: &Params, symbols: &[Symbol]) -> Result<i64, Refusal> {
-    ///     let count = symbols.len() as u64;
+    ///     let count = symbols.len().max(1) as u64;
     ///     let sum: u64 = symbols.iter().map(|s| u64::from(s.period)).sum();
     ///     params.offset(((sum + count / 2) / count) as u32)
     /// }

@@ -32,13 +32,13 @@ modZ (negsuc n) m = m - 1 - n % m
 unfoldable pub wrapI32 : ℤ → ℤ
 wrapI32 v = pos (modZ (v +ℤ pos (2 ^ 31)) (2 ^ 32)) -ℤ pos (2 ^ 31)
 
--- The whole number nearest to a / d, and of two that are as near the larger: the whole part, and one more where at least a half is left.
+-- The whole number nearest to a / d, for d above 0, and of two that are as near the larger: the whole part, and one more where at least a half is left.
 -- (RULES 2.6)
 unfoldable pub nearestUp : ℕ → ℕ → ℕ
 nearestUp a d = a / d + cond (ltb (2 * (a % d)) d) 0 1
 
--- The whole number nearest to n / d, and of two that are as near the one farther from zero: below zero, the same of the sizes. Nothing is nearest to n / 0,
--- and the answer is 0.
+-- The whole number nearest to n / d, and of two that are as near the one farther from zero: below zero, that of the size, with a minus. Nothing is nearest to
+-- n / 0, and the answer is 0.
 -- (RULES 2.6)
 unfoldable pub nearestAway : ℤ → ℕ → ℤ
 nearestAway n zero = pos 0
