@@ -67,7 +67,7 @@ pub record Worked : Type 0 where
   pub most-refused : judged (plainSheet (paramsWith 33554432 32883343 67108864)) ≡ refusal 6 []
   -- P7
   pub detector : placesFrom 32 0 32 ≡ (12 ∷ 13 ∷ 14 ∷ 15 ∷ 16 ∷ 17 ∷ 18 ∷ 19 ∷ [])
-  -- P8: a slow sender and a fast one; then a tie of each, where parts of the nominal period would be 975610 and -977517
+  -- P8: a slow sender and a fast one; then a tie of each, where parts of the nominal period would be -977517 and 975610
   pub offset-slow : offsetOf sheet 33554465 ≡ record { refused = nothing; parts = negsuc 982 }
   pub offset-fast : offsetOf sheet 33554399 ≡ record { refused = nothing; parts = pos 983 }
   pub tie-slow : offsetOf (plainSheet (paramsWith 33521664 32883343 34225520)) 33554432 ≡ record { refused = nothing; parts = negsuc 976562 }

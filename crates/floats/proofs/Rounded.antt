@@ -33,7 +33,7 @@ half-up : (q : ℕ) (b : Bool) → (2 * q + cond b 0 1) / 2 + (2 * q + cond b 0 
 half-up q true = omega arith
 half-up q false = omega arith
 
-pub by-halves : (a d : ℕ) → 0 < d → 2 * a / d / 2 + 2 * a / d % 2 ≡ nearestUp a d
+by-halves : (a d : ℕ) → 0 < d → 2 * a / d / 2 + 2 * a / d % 2 ≡ nearestUp a d
 unfolding nearestUp
 by-halves a d D = ap (λ (n : ℕ). n / 2 + n % 2) (halves a d D) ∙ half-up (a / d) (ltb (2 * (a % d)) d)
 

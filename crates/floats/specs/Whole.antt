@@ -8,7 +8,7 @@ use Rattle.arith.specs.Arith.{nearestUp}
 
 -- The whole number nearest to x, and of two that are as near the one farther from zero. A NaN and the infinities stay what they are.
 -- It is the number that counts here, and not how the format would write it: only casts read it, and they read the number.
--- (RULES 6.2, 6.3)
+-- (RULES 2.6, as 6.2 and 6.3 use it)
 unfoldable pub roundAway : Float → Float
 roundAway nan = nan
 roundAway (inf s) = inf s

@@ -40,8 +40,9 @@ quotient n m = toZ w64 (ofZ w64 (quotZ n m))
 abbrev twiceRest : ℤ → ℤ → ℤ
 twiceRest n m = pos 2 *ℤ toZ w64 (ofZ w64 (remZ n m))
 
-abbrev half : ℤ → ℤ → ℤ
-half n m = quotZ (toZ w64 (ofZ w64 (twiceRest n m))) m
+-- what the quotient takes more: 1 or nothing, with the sign
+abbrev more : ℤ → ℤ → ℤ
+more n m = quotZ (toZ w64 (ofZ w64 (twiceRest n m))) m
 
 quotient-is : {s : Bool} {a d : ℕ} {n m : ℤ} → Sizes s a d n m → quotient n m ≡ signed s (a / d)
 quotient-is {s} {a} {d} z = rw (z .n-is, z .m-is) (rw (quot-signed s a d) (toZ-ofZ (smaller-fits s a (a / d) (div-le-self a d) (z .fits))))
@@ -53,17 +54,17 @@ twice-is {s} {a} {d} z =
 twice-fits : {s : Bool} {a d : ℕ} {n m : ℤ} → Sizes s a d n m → SFits w64 (twiceRest n m)
 twice-fits {s} {a} {d} z = rw (twice-is z) (size-fits s (2 * (a % d)) (z .small))
 
-half-is : {s : Bool} {a d : ℕ} {n m : ℤ} → Sizes s a d n m → half n m ≡ signed s (2 * (a % d) / d)
-half-is {s} {a} {d} z =
+more-is : {s : Bool} {a d : ℕ} {n m : ℤ} → Sizes s a d n m → more n m ≡ signed s (2 * (a % d) / d)
+more-is {s} {a} {d} z =
     rw (toZ-ofZ (twice-fits z)) (rw (twice-is z, z .m-is) (quot-signed s (2 * (a % d)) d))
 
-half-fits : {s : Bool} {a d : ℕ} {n m : ℤ} → Sizes s a d n m → SFits w64 (half n m)
-half-fits {s} {a} {d} z = rw (half-is z) (size-fits s (2 * (a % d) / d) (omega (arith, z .small, div-le-self (2 * (a % d)) d)))
+more-fits : {s : Bool} {a d : ℕ} {n m : ℤ} → Sizes s a d n m → SFits w64 (more n m)
+more-fits {s} {a} {d} z = rw (more-is z) (size-fits s (2 * (a % d) / d) (omega (arith, z .small, div-le-self (2 * (a % d)) d)))
 
-sum-is : {s : Bool} {a d : ℕ} {n m : ℤ} → Sizes s a d n m → quotient n m +ℤ toZ w64 (ofZ w64 (half n m)) ≡ signed s (a / d + 2 * (a % d) / d)
-sum-is {s} {a} {d} z = rw (quotient-is z, toZ-ofZ (half-fits z)) (rw (half-is z) (add-signed s (a / d) (2 * (a % d) / d)))
+sum-is : {s : Bool} {a d : ℕ} {n m : ℤ} → Sizes s a d n m → quotient n m +ℤ toZ w64 (ofZ w64 (more n m)) ≡ signed s (a / d + 2 * (a % d) / d)
+sum-is {s} {a} {d} z = rw (quotient-is z, toZ-ofZ (more-fits z)) (rw (more-is z) (add-signed s (a / d) (2 * (a % d) / d)))
 
-sum-fits : {s : Bool} {a d : ℕ} {n m : ℤ} → Sizes s a d n m → SFits w64 (quotient n m +ℤ toZ w64 (ofZ w64 (half n m)))
+sum-fits : {s : Bool} {a d : ℕ} {n m : ℤ} → Sizes s a d n m → SFits w64 (quotient n m +ℤ toZ w64 (ofZ w64 (more n m)))
 sum-fits {s} {a} {d} z = rw (sum-is z) (smaller-fits s a (a / d + 2 * (a % d) / d) (no-larger a d (z .some)) (z .fits))
 
 -- ---- what the code reads
@@ -94,7 +95,7 @@ mul-result : tie.Need-mul-result
 mul-result c = twice-fits (sizes c)
 
 div-result-2 : tie.Need-div-result-2
-div-result-2 c = (sizes c .some, half-fits (sizes c))
+div-result-2 c = (sizes c .some, more-fits (sizes c))
 
 add-result : tie.Need-add-result
 add-result c = sum-fits (sizes c)
