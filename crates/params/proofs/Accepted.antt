@@ -11,7 +11,7 @@ use borrow.Author.Tests.{ltb-true, leb-true, eqb-true}
 use Rattle.params.specs.declared.Params.{Params}
 use Rattle.params.specs.Refusal.{Refusal, refusal, nothing}
 use Rattle.params.specs.Banks.{rowsFaults, bankFaults, rowsOutside}
-use Rattle.params.specs.Judge.{Sheet, goodTaps, goodLength, lengthFaults, goodPeriods, fieldFault, fieldFaults, faults, judged}
+use Rattle.params.specs.Judge.{Sheet, goodTaps, goodLength, lengthFaults, goodPeriods, fieldFault, goodDelay, fieldFaults, faults, judged}
 use Rattle.arith.proofs.Both.{and-left, and-right}
 use Rattle.params.proofs.Faults.{kept, none-at, none-left, none-right, first-none, faults-numbered}
 
@@ -38,6 +38,8 @@ pub record GoodFields (p : Params) : Type 0 where
   pub kp-shift : p .«kp_shift» ≤ 40
   pub ki-shift : p .«ki_shift» ≤ 40
   pub agc-shift : p .«agc_shift» ≤ 63
+  pub delay-least : 1 ≤ p .delay
+  pub delay-most : p .delay ≤ 24
 
 pub record GoodBanks (taps : ℕ) (h g k : List ℤ) : Type 0 where
   pub rows-h : rowsFaults taps 0 h 0 64 ≡ []
@@ -101,6 +103,11 @@ field-whole : (place : ℕ) (z : ℤ) (hi : ℕ) → fieldFault place z 0 hi ≡
 field-whole place (pos n) hi e = (n, refl, field-most place n 0 hi e)
 field-whole place (negsuc n) hi e = let z : _≡_ {A = ℕ} 0 1 = cc (kept false (refusal 7 (pos place ∷ [])) e) in absurd (omega arith)
 
+-- the delay's rule is kept
+delay-within : (delay : ℕ) → goodDelay delay ≡ true → (1 ≤ delay) × (delay ≤ 24)
+unfolding goodDelay
+delay-within delay e = (leb-true 1 delay (and-left (leb 1 delay) (leb delay 24) e), leb-true delay 24 (and-right (leb 1 delay) (leb delay 24) e))
+
 -- ---- the three parts of judging
 
 pub good-lengths : (taps : ℕ) (h g k : List ℤ) → lengthFaults taps h g k ≡ [] → GoodLengths taps h g k
@@ -138,6 +145,8 @@ good-fields p e = record {
   kp-shift = field-most 6 (p .«kp_shift») 0 40 (none-at _ e 7);
   ki-shift = field-most 7 (p .«ki_shift») 0 40 (none-at _ e 8);
   agc-shift = leb-true (p .«agc_shift») 63 (kept _ _ (none-at _ e 9));
+  delay-least = delay-within (p .delay) (kept _ _ (none-at _ e 10)) .0;
+  delay-most = delay-within (p .delay) (kept _ _ (none-at _ e 10)) .1;
 }
 
 -- ---- all of it

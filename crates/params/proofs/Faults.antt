@@ -10,7 +10,7 @@ use lib.ListN.{getD}
 use lib.IntN.{ℤ}
 use Rattle.params.specs.declared.Params.{Params}
 use Rattle.params.specs.declared.ParamError.{ParamError}
-use Rattle.params.specs.declared.ParamError.the-variants.{Taps, BankLength, Coefficient, CoefficientSum, DetectorTaps, PeriodBounds, Range, AgcShift}
+use Rattle.params.specs.declared.ParamError.the-variants.{Taps, BankLength, Coefficient, CoefficientSum, DetectorTaps, PeriodBounds, Range, AgcShift, Delay}
 use Rattle.params.specs.declared.Verdict.{Verdict}
 use Rattle.params.specs.declared.Verdict.the-variants.{Refused}
 use Rattle.params.specs.Refusal.{Refusal, nothing, errorRefusal, verdictRefusal, unless, firstOf}
@@ -100,6 +100,7 @@ error-numbered (DetectorTaps b) = lit< tt
 error-numbered PeriodBounds = lit< tt
 error-numbered (Range f) = lit< tt
 error-numbered AgcShift = lit< tt
+error-numbered Delay = lit< tt
 
 -- what a verdict that refuses told of a list of faults, its error tells
 pub refused : {v : Verdict} {r : Refusal} {e : ParamError} → verdictRefusal v ≡ r → v ≡ Refused e → errorRefusal e ≡ r

@@ -53,7 +53,11 @@ goodPeriods p =
 abbrev pub fieldFault : ℕ → ℤ → ℕ → ℕ → List Refusal
 fieldFault place v lo hi = unless (within (pos lo) (pos hi) v) (refusal 7 (pos place ∷ []))
 
--- 6, then 7 field by field in the order in which they are looked at, then 8: no shift that 64 bits cannot make.
+-- 29: errors act at a symbol from the next one to the 24th later.
+unfoldable pub goodDelay : ℕ → Bool
+goodDelay delay = leb 1 delay && leb delay 24
+
+-- 6, then 7 field by field in the order in which they are looked at, then 8: no shift that 64 bits cannot make; then 29.
 abbrev pub fieldTests : Params → List (List Refusal)
 fieldTests p =
     unless (goodPeriods p) (refusal 6 [])
@@ -66,6 +70,7 @@ fieldTests p =
     ∷ fieldFault 6 (pos (p .«kp_shift»)) 0 40
     ∷ fieldFault 7 (pos (p .«ki_shift»)) 0 40
     ∷ unless (leb (p .«agc_shift») 63) (refusal 8 [])
+    ∷ unless (goodDelay (p .delay)) (refusal 29 [])
     ∷ []
 
 unfoldable pub fieldFaults : Params → List Refusal
@@ -73,7 +78,7 @@ fieldFaults p = flatten (fieldTests p)
 
 -- ---- all of it
 
--- The faults of a sheet with its banks, 1 to 8, in order.
+-- The faults of a sheet with its banks, 1 to 8 and then 29, in order.
 unfoldable pub faults : Sheet → List Refusal
 faults s =
     let taps : ℕ = s .params .taps in

@@ -4,7 +4,7 @@ use mathlib.Core.Bool.{Bool, cond}
 use mathlib.Core.List.{List, [], _∷_}
 use lib.IntN.{ℤ, pos}
 use Rattle.params.specs.declared.ParamError.{ParamError}
-use Rattle.params.specs.declared.ParamError.the-variants.{Taps, BankLength, Coefficient, CoefficientSum, DetectorTaps, PeriodBounds, Range, AgcShift}
+use Rattle.params.specs.declared.ParamError.the-variants.{Taps, BankLength, Coefficient, CoefficientSum, DetectorTaps, PeriodBounds, Range, AgcShift, Delay}
 use Rattle.params.specs.declared.Verdict.{Verdict}
 use Rattle.params.specs.declared.Verdict.the-variants.{Accepted, Refused}
 
@@ -30,6 +30,7 @@ errorRefusal (DetectorTaps bank) = refusal 5 (pos bank ∷ [])
 errorRefusal PeriodBounds = refusal 6 []
 errorRefusal (Range field) = refusal 7 (pos field ∷ [])
 errorRefusal AgcShift = refusal 8 []
+errorRefusal Delay = refusal 29 []
 
 abbrev pub verdictRefusal : Verdict → Refusal
 verdictRefusal Accepted = nothing

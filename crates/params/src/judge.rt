@@ -1,4 +1,4 @@
-// Judging a sheet with its banks: 1 to 8, in this order (RULES 1.4).
+// Judging a sheet with its banks: 1 to 8 and 29, in this order (RULES 1.4).
 use crate::ParamError;
 use crate::Params;
 use crate::Verdict;
@@ -94,7 +94,7 @@ impl Params {
         self.period_max < 0x400_0000
     }
 
-    // 6, then 7 field by field, then 8.
+    // 6, then 7 field by field, then 8, then 29.
     fn check_fields(self) -> Verdict
         ensures { λ r. ⌜ verdictRefusal r ≡ firstOf (fieldFaults self) ⌝ }
     {
@@ -127,6 +127,9 @@ impl Params {
         }
         if 63 < self.agc_shift {
             return Verdict::Refused(ParamError::AgcShift);
+        }
+        if !is_within(self.delay as u32, 1, 24) {
+            return Verdict::Refused(ParamError::Delay);
         }
         Verdict::Accepted
     }

@@ -35,6 +35,8 @@ pub struct Params {
     pub q_shift: u8,
     // log2 of the block length in symbols; carried and judged, and read by no rule of the path.
     pub block_log2: u8,
+    // The loop's delay: how many symbols later a symbol's errors act, 1 to 24.
+    pub delay: u8,
 }
 
 // Why a sheet is refused (RULES 1.4). A bank is 0 for h, 1 for g and 2 for k; a phase is a row of it.
@@ -47,6 +49,7 @@ pub enum ParamError {
     PeriodBounds,
     Range { field: u8 },
     AgcShift,
+    Delay,
 }
 
 // What judging a sheet answers.

@@ -19,6 +19,7 @@ impl ParamError {
             ParamError::PeriodBounds => 6,
             ParamError::Range { .. } => 7,
             ParamError::AgcShift => 8,
+            ParamError::Delay => 29,
         }
     }
 }

@@ -12,7 +12,7 @@ use mir.Facts.{fits-widen}
 use Rattle.arith.proofs.Bits.{held}
 use Rattle.params.specs.declared.Params.{Params}
 use Rattle.params.specs.Refusal.{Refusal}
-use Rattle.params.specs.Judge.{fieldTests, fieldFaults}
+use Rattle.params.specs.Judge.{goodDelay, fieldTests, fieldFaults}
 use Rattle.arith.specs.Arith.{within}
 use Rattle.params.proofs.Faults.{First, none, keeps, breaks}
 use Rattle.params.proofs.Params.check_fields.Statement.{statement}
@@ -126,9 +126,21 @@ returns-10 : tie.Need-returns-10
 unfolding fieldFaults
 returns-10 c = let f : First _ _ = past9 (c .before .before) (breaks (lit< tt) (lt-leb _ _ (c .if10 .taken))) in f .is
 
+abbrev self10 : tie.Else10 → Params
+self10 c = self9 (c .before .before)
+
+past10 : (c : tie.Else10) {r : Refusal} → Left (self10 c) 10 r → Left (self10 c) 0 r
+past10 c f = past9 (c .before .before) (keeps _ (le-leb _ _ (c .if10 .left)) f)
+
 returns-11 : tie.Need-returns-11
-unfolding fieldFaults
-returns-11 c = let f : First _ _ = past9 (c .before .before) (keeps _ (le-leb _ _ (c .if10 .left)) none) in f .is
+unfolding fieldFaults goodDelay
+returns-11 c = let f : First _ _ =
+    past10 (c .before .before .before) (breaks (lit< tt) (sym (c .before .is-within8 .ensures) ∙ not-true _ (c .if11 .taken))) in f .is
+
+returns-12 : tie.Need-returns-12
+unfolding fieldFaults goodDelay
+returns-12 c = let f : First _ _ =
+    past10 (c .before .before .before) (keeps _ (sym (c .before .is-within8 .ensures) ∙ not-false _ (c .if11 .left)) none) in f .is
 
 -- ---- what the calls and casts ask for
 
@@ -177,6 +189,12 @@ cast-is-within-6 c = search needs
 is-within-requires-7 : tie.Need-is-within-requires-7
 is-within-requires-7 c κs = search needs
 
+cast-is-within-7 : tie.Need-cast-is-within-7
+cast-is-within-7 c = fits-widen {w = w8} tt (c .struct-known8 .given .1 .1 .1 .1 .1 .1 .1 .1 .1 .1 .1 .1 .1 .1 .1 .1 .1 .0)
+
+is-within-requires-8 : tie.Need-is-within-requires-8
+is-within-requires-8 c κs = search needs
+
 pub check-fields-spec : {M : Type 1} → statement M
 check-fields-spec =
     tie.close
@@ -206,4 +224,7 @@ check-fields-spec =
     is-within-requires-7
     returns-9
     returns-10
-    returns-11)
+    cast-is-within-7
+    is-within-requires-8
+    returns-11
+    returns-12)
