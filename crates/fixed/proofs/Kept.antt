@@ -18,14 +18,14 @@ use Rattle.params.proofs.Accepted.{GoodFields, Accepted, judged-none, no-faults
 use Rattle.registers.specs.declared.Pending.{Pending}
 use Rattle.registers.specs.declared.Registers.{Registers}
 use Rattle.registers.specs.Correct.{integratorEnd}
-use Rattle.registers.specs.Step.{one, found, left, afterSymbol}
+use Rattle.registers.specs.Step.{isDue, one, found, left, afterSymbol}
 use Rattle.registers.proofs.Loops.{Loop, Within}
 use Rattle.symbol.specs.declared.Symbol.{Symbol}
 use Rattle.symbol.specs.Make.{symbolFrom}
 use Rattle.state.specs.declared.Pair.{Pair}
 use Rattle.state.specs.declared.Frontend.{Frontend}
 use Rattle.state.specs.declared.Position.{Position}
-use Rattle.state.specs.Start.{noPair, noPending}
+use Rattle.state.specs.Start.{ringPlaces, noPair, noPending}
 use Rattle.fixed.specs.Mix.{mixed, nextNco}
 use Rattle.fixed.specs.Line.{nextHead}
 use Rattle.fixed.specs.Filter.{filtered}
@@ -80,7 +80,7 @@ laid-joined {line} head x y m ex ey h k laid = record {
 -- ---- the queue
 
 -- a symbol's errors take a place
-pub queued-set : {e err : List ℤ} {pending : List Pending} (at : ℕ) (w : Pending) → at < 24 → Queued e err pending
+pub queued-set : {e err : List ℤ} {pending : List Pending} (at : ℕ) (w : Pending) → at < ringPlaces → Queued e err pending
     → Queued (set e at (w .e)) (set err at (w .err)) (set pending at w)
 queued-set {e} {err} {pending} at w h queued = record {
   long-e = length-set e at (w .e) ∙ queued .long-e;
@@ -89,7 +89,7 @@ queued-set {e} {err} {pending} at w h queued = record {
   each = λ n b. go n b (eqb n at) refl;
 }
   where
-    go : (n : ℕ) → n < 24 → (b : Bool) → eqb n at ≡ b
+    go : (n : ℕ) → n < ringPlaces → (b : Bool) → eqb n at ≡ b
         → getD (set pending at w) n noPending ≡ errorsAt (set e at (w .e)) (set err at (w .err)) n
     go n b true q =
         rw (
@@ -122,18 +122,18 @@ v-small p l f w = go (f .integrator .0) (f .integrator .1) (f .integrator .2)
 
 -- The registers as a symbol finds them, of what a block keeps.
 abbrev pub dueIn : Params → Kept → Registers
-dueIn p x = let w : Position = x .position in found p (x .registers) (eqb (w .waiting) 24) (errorsAt (x .e) (x .err) (w .oldest))
+dueIn p x = let w : Position = x .position in found p (x .registers) (isDue (p .delay) (w .waiting)) (errorsAt (x .e) (x .err) (w .oldest))
 
 -- The registers after a sample without a symbol.
 abbrev pub later : Registers → Registers
 later r = record { nco = r .nco; «t_acc» = r .«t_acc» -ℤ one; v = r .v; period = r .period; «gain_acc» = r .«gain_acc»; symbols = r .symbols }
 
 -- The positions after a symbol, and after a sample without one.
-abbrev pub afterSymbolAt : Position → Position
-afterSymbolAt w = record {
+abbrev pub afterSymbolAt : ℕ → Position → Position
+afterSymbolAt delay w = record {
   head = w .head;
-  oldest = cond (eqb (w .waiting) 24) ((w .oldest + 1) % 24) (w .oldest);
-  waiting = cond (eqb (w .waiting) 24) 24 (w .waiting + 1);
+  oldest = cond (isDue delay (w .waiting)) ((w .oldest + 1) % ringPlaces) (w .oldest);
+  waiting = cond (isDue delay (w .waiting)) (w .waiting) (w .waiting + 1);
   samples = w .samples + 1;
 }
 
@@ -144,8 +144,8 @@ laterAt w = record { head = w .head; oldest = w .oldest; waiting = w .waiting; s
 abbrev pub keptWith : Params → Kept → ℤ → ℤ → Kept
 keptWith p x e err =
     let w : Position = x .position in
-    let at : ℕ = (w .oldest + w .waiting) % 24 in
-    kept (x .i) (x .q) (set (x .e) at e) (set (x .err) at err) (left (dueIn p x)) (afterSymbolAt w)
+    let at : ℕ = (w .oldest + w .waiting) % ringPlaces in
+    kept (x .i) (x .q) (set (x .e) at e) (set (x .err) at err) (left (dueIn p x)) (afterSymbolAt (p .delay) w)
 
 abbrev pub keptWithout : Kept → Kept
 keptWithout x = kept (x .i) (x .q) (x .e) (x .err) (later (x .registers)) (laterAt (x .position))
@@ -169,13 +169,17 @@ module _ {s : Sheet} {x : Kept} (ready : Ready s x) where
   pub ready-going : Going p (outline r w)
   ready-going = going p (outline r w) (ready .begun .good)
 
+  -- the ring has room for all that wait
+  pub ring-holds : w .waiting ≤ ringPlaces
+  ring-holds = omega (arith, ready-going .waiting, accepted .fields .delay-most)
+
   -- The state that is made of registers and positions, with the errors that would be applied.
   abbrev f₀ : Frontend
   f₀ = record {
     registers = r;
     line = [];
     head = w .head;
-    pending = set (replicate 24 noPending) (w .oldest) waitsLongest;
+    pending = set (replicate ringPlaces noPending) (w .oldest) waitsLongest;
     oldest = w .oldest;
     waiting = w .waiting;
     samples = w .samples;
@@ -193,20 +197,20 @@ module _ {s : Sheet} {x : Kept} (ready : Ready s x) where
   }
 
   oldest₀ : oldestErrors f₀ ≡ waitsLongest
-  oldest₀ = getD-set-same (replicate 24 noPending) (w .oldest) waitsLongest noPending (omega (arith, ready-going .oldest))
+  oldest₀ = getD-set-same (replicate ringPlaces noPending) (w .oldest) waitsLongest noPending (omega (arith, ready-going .oldest))
 
   due₀ : due p f₀ ≡ dueIn p x
   unfolding due
-  due₀ = ap (found p r (eqb (w .waiting) 24)) oldest₀
+  due₀ = ap (found p r (isDue (p .delay) (w .waiting))) oldest₀
 
   -- ---- a symbol
 
   -- the step on the registers, as the code makes it
   pub step-is : ltZ (r .«t_acc») one ≡ true
-      → afterSymbol p r (eqb (w .waiting) 24) waitsLongest ≡ record { registers = left (dueIn p x); made = true }
+      → afterSymbol p r (isDue (p .delay) (w .waiting)) waitsLongest ≡ record { registers = left (dueIn p x); made = true }
   unfolding withSymbol
   step-is t =
-      sym (ap (afterSymbol p r (eqb (w .waiting) 24)) oldest₀) ∙ one-step s f₀ (good p f₀ going₀) t (omega (arith, ready .room))
+      sym (ap (afterSymbol p r (isDue (p .delay) (w .waiting))) oldest₀) ∙ one-step s f₀ (good p f₀ going₀) t (omega (arith, ready .room))
       ∙ ap (λ (d : Registers). record { registers = left d; made = true }) due₀
 
   -- the registers that it leaves have a gain of 16 bits
@@ -221,7 +225,7 @@ module _ {s : Sheet} {x : Kept} (ready : Ready s x) where
       let soon : time f₀ < 16777216 = ltb-true (time f₀) 16777216 (sym (ap (λ (z : ℤ). ltZ z one) (going₀ .whole)) ∙ t) in
       record {
         good =
-            subst (λ (d : Registers). goodState p (outline (left d) (afterSymbolAt w)) ≡ true) due₀
+            subst (λ (d : Registers). goodState p (outline (left d) (afterSymbolAt (p .delay) w)) ≡ true) due₀
             (good p (withSymbol s f₀) (with-symbol-going s accepted f₀ soon going₀));
         samples = refl;
       }
@@ -245,12 +249,12 @@ module _ {s : Sheet} {x : Kept} (ready : Ready s x) where
     pub stands-with : (y : Symbol) → y ≡ symbolOf s f → Stands (p .taps) (keptWith p x (y .e) (y .err)) (withSymbol s f)
     unfolding withSymbol
     stands-with y is =
-        let at : ℕ = (w .oldest + w .waiting) % 24 in
+        let at : ℕ = (w .oldest + w .waiting) % ringPlaces in
         record {
           line = stands .line;
           queue =
               subst (Queued (set (x .e) at (y .e)) (set (x .err) at (y .err)))
-              (λ t. set (f .pending) ((sym (stands .oldest) t + sym (stands .waiting) t) % 24) (record { e = is t .e; err = is t .err }))
+              (λ t. set (f .pending) ((sym (stands .oldest) t + sym (stands .waiting) t) % ringPlaces) (record { e = is t .e; err = is t .err }))
               (queued-set at (record { e = y .e; err = y .err }) (omega arith) (stands .queue));
           registers = ap left stands-due;
           head = stands .head;

@@ -17,7 +17,7 @@ use Rattle.symbol.specs.declared.Symbol.{Symbol}
 use Rattle.state.specs.declared.Pair.{Pair}
 use Rattle.state.specs.declared.Frontend.{Frontend}
 use Rattle.state.specs.declared.Position.{Position}
-use Rattle.state.specs.Start.{noPair, noPending}
+use Rattle.state.specs.Start.{ringPlaces, noPair, noPending}
 use Rattle.fixed.specs.Filter.{sumTo}
 use Rattle.fixed.specs.Sample.{symbolOf, withSymbol, next, madeBy, after, emitted}
 use Rattle.state.specs.Check.{goodState, outline}
@@ -77,12 +77,12 @@ pub record DetectorRow (row : List ℤ) (i q : List ℕ) : Type 0 where
 abbrev pub errorsAt : List ℤ → List ℤ → ℕ → Pending
 errorsAt e err n = record { e = getD e n (pos 0); err = getD err n (pos 0) }
 
--- The 24 places of the queue so.
+-- The places of the ring so.
 pub record Queued (e err : List ℤ) (pending : List Pending) : Type 0 where
-  pub long-e : length e ≡ 24
-  pub long-err : length err ≡ 24
-  pub long : length pending ≡ 24
-  pub each : (n : ℕ) → n < 24 → getD pending n noPending ≡ errorsAt e err n
+  pub long-e : length e ≡ ringPlaces
+  pub long-err : length err ≡ ringPlaces
+  pub long : length pending ≡ ringPlaces
+  pub each : (n : ℕ) → n < ringPlaces → getD pending n noPending ≡ errorsAt e err n
 
 -- ---- what a block keeps
 
@@ -114,8 +114,8 @@ pub record Begun (s : Sheet) (x : Kept) : Type 0 where
   pub good : goodState (s .params) (outline (x .registers) (x .position)) ≡ true
   pub long-i : length (x .i) ≡ 128
   pub long-q : length (x .q) ≡ 128
-  pub long-e : length (x .e) ≡ 24
-  pub long-err : length (x .err) ≡ 24
+  pub long-e : length (x .e) ≡ ringPlaces
+  pub long-err : length (x .err) ≡ ringPlaces
 
 -- The same, with room for one sample more.
 pub record Ready (s : Sheet) (x : Kept) : Type 0 where

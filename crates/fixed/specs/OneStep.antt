@@ -14,4 +14,4 @@ use Rattle.state.specs.Check.{goodState}
 abbrev pub OneStep : Type 0
 OneStep =
     (s : Sheet) (f : Frontend) → goodState (s .params) f ≡ true → falls f ≡ true → f .samples < 18446744073709551615
-    → afterSymbol (s .params) (f .registers) (isFull f) (oldestErrors f) ≡ record { registers = withSymbol s f .registers; made = true }
+    → afterSymbol (s .params) (f .registers) (isFull (s .params) f) (oldestErrors f) ≡ record { registers = withSymbol s f .registers; made = true }

@@ -1,29 +1,30 @@
--- The waiting errors: a ring of 24 places, the oldest's position, and how many wait.
+-- The waiting errors: a ring, the oldest's position, and how many wait.
 -- (RULES 3.6)
 use Prim.Native.Nat.{ℕ, _+_, _%_}
 use mathlib.Core.Bool.{Bool, cond}
 use mathlib.Core.List.{List}
 use lib.ListN.{getD, set}
+use Rattle.params.specs.declared.Params.{Params}
 use Rattle.registers.specs.declared.Pending.{Pending}
-use Rattle.registers.specs.Step.{loopDelay, isDue}
+use Rattle.registers.specs.Step.{isDue}
 use Rattle.state.specs.declared.Frontend.{Frontend}
-use Rattle.state.specs.Start.{noPending}
+use Rattle.state.specs.Start.{ringPlaces, noPending}
 
 -- As many wait as the loop's delay, so the oldest are due.
-abbrev pub isFull : Frontend → Bool
-isFull f = isDue (f .waiting)
+abbrev pub isFull : Params → Frontend → Bool
+isFull p f = isDue (p .delay) (f .waiting)
 
 -- The errors that wait longest.
 abbrev pub oldestErrors : Frontend → Pending
 oldestErrors f = getD (f .pending) (f .oldest) noPending
 
--- The ring once new errors joined behind the newest: where it is full, that is the place that the oldest leave.
+-- The ring once new errors joined behind the newest. Where as many wait as the ring has places, that is the place that the oldest leave.
 abbrev pub queuedErrors : Frontend → Pending → List Pending
-queuedErrors f w = set (f .pending) ((f .oldest + f .waiting) % 24) w
+queuedErrors f w = set (f .pending) ((f .oldest + f .waiting) % ringPlaces) w
 
--- Where the oldest then stand, and how many wait.
-abbrev pub nextOldest : Frontend → ℕ
-nextOldest f = cond (isFull f) ((f .oldest + 1) % 24) (f .oldest)
+-- Where the oldest then stand, and how many wait: as many as before where the oldest left.
+abbrev pub nextOldest : Params → Frontend → ℕ
+nextOldest p f = cond (isFull p f) ((f .oldest + 1) % ringPlaces) (f .oldest)
 
-abbrev pub nextWaiting : Frontend → ℕ
-nextWaiting f = cond (isFull f) loopDelay (f .waiting + 1)
+abbrev pub nextWaiting : Params → Frontend → ℕ
+nextWaiting p f = cond (isFull p f) (f .waiting) (f .waiting + 1)

@@ -41,7 +41,7 @@ joined s f x =
 
 -- The registers as the symbol finds them: where as many errors wait as the loop's delay, the oldest are applied first.
 unfoldable pub due : Params → Frontend → Registers
-due p f = found p (f .registers) (isFull f) (oldestErrors f)
+due p f = found p (f .registers) (isFull p f) (oldestErrors f)
 
 -- The symbol that falls due in this state, once the sample has joined the line: its phase is the sixty-fourth of the sample that the time says.
 -- (RULES 3.5)
@@ -58,8 +58,8 @@ withSymbol s f = record {
   line = f .line;
   head = f .head;
   pending = queuedErrors f (record { e = symbolOf s f .e; err = symbolOf s f .err });
-  oldest = nextOldest f;
-  waiting = nextWaiting f;
+  oldest = nextOldest (s .params) f;
+  waiting = nextWaiting (s .params) f;
   samples = f .samples + 1;
 }
 

@@ -8,6 +8,7 @@ use registers::Pending;
 use registers::Registers;
 use state::Pair;
 use state::Position;
+use state::RING;
 use symbol::Symbol;
 ghost use mathlib.Core.Path.{_≡_};
 ghost use mathlib.Core.Bool.{cond};
@@ -15,6 +16,7 @@ ghost use Prim.Native.Nat.{_+_, _*_, _/_, _≤_};
 ghost use lib.ListN.{length};
 ghost use Rattle.params.specs.Judge.{sheetOf};
 ghost use Rattle.symbol.specs.Places.{putOf};
+ghost use Rattle.state.specs.Start.{ringPlaces};
 ghost use Rattle.fixed.specs.Inside.{Laid, Packed, Queued, kept, Begun, Runs};
 
 // ---- the state, taken apart and put together
@@ -32,12 +34,12 @@ pub(crate) fn unpack_line(line: [Pair; 64], taps: usize, i: &mut [u32], q: &mut 
     }
 }
 
-pub(crate) fn unpack_pending(pending: [Pending; 24], e: &mut [i32], err: &mut [i32])
-    requires { ⌜ (length (now e) ≡ 24) × (length (now err) ≡ 24) ⌝ }
+pub(crate) fn unpack_pending(pending: [Pending; RING], e: &mut [i32], err: &mut [i32])
+    requires { ⌜ (length (now e) ≡ ringPlaces) × (length (now err) ≡ ringPlaces) ⌝ }
     ensures { λ _. ⌜ Queued (now (e .exit)) (now (err .exit)) pending ⌝ }
 {
     let mut n: usize = 0;
-    while n < 24 {
+    while n < RING {
         let m = pending[n];
         let a = m.e;
         let b = m.err;
@@ -64,13 +66,13 @@ pub(crate) fn pack_line(line: [Pair; 64], taps: usize, i: &[u32], q: &[u32]) -> 
     packed
 }
 
-pub(crate) fn pack_pending(pending: [Pending; 24], e: &[i32], err: &[i32]) -> [Pending; 24]
-    requires { ⌜ (length (now e) ≡ 24) × (length (now err) ≡ 24) ⌝ }
+pub(crate) fn pack_pending(pending: [Pending; RING], e: &[i32], err: &[i32]) -> [Pending; RING]
+    requires { ⌜ (length (now e) ≡ ringPlaces) × (length (now err) ≡ ringPlaces) ⌝ }
     ensures { λ r. ⌜ Queued (now (e .entry)) (now (err .entry)) r ⌝ }
 {
     let mut packed = pending;
     let mut n: usize = 0;
-    while n < 24 {
+    while n < RING {
         packed[n] = Pending {
             e: e[n],
             err: err[n],

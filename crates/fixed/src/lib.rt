@@ -9,7 +9,7 @@
 //  2. Line (line.rt): the pair is the newest of the last `taps`.
 //  3. If t < 2^24 a symbol is made (sample.rt):
 //       phase = t >> 18                                                       0 to 63
-//     a. Loop (crates/registers), if 24 errors wait (queue.rt), with the oldest e and err:
+//     a. Loop (crates/registers), if `delay` errors wait (queue.rt), with the oldest e and err:
 //          v = v + R(ki e, ki_shift)                                          within +-integrator_max 2^16
 //          period = nominal + (v >> 16) + R(kp e, kp_shift)                   min to max
 //          acc = acc + (err >> agc_shift)                                     24 bits
@@ -35,6 +35,7 @@ mod sample;
 use params::Params;
 use state::Frontend;
 use state::FrontendVerdict;
+use state::RING;
 ghost use mathlib.Core.Path.{_≡_};
 ghost use mathlib.Core.List.{[]};
 ghost use lib.ListN.{length};
@@ -92,8 +93,8 @@ fn run(
     let taps = p.taps as usize;
     let mut i = [0u32; 128];
     let mut q = [0u32; 128];
-    let mut e = [0i32; 24];
-    let mut err = [0i32; 24];
+    let mut e = [0i32; RING];
+    let mut err = [0i32; RING];
     let line = f.line;
     let pending = f.pending;
     block::unpack_line(line, taps, &mut i, &mut q);

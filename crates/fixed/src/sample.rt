@@ -80,7 +80,7 @@ fn with_symbol(
 {
     let phase = (r.t_acc >> 18) as usize;
     let oldest = queue::oldest(&*e, &*err, w);
-    let stepped = r.after_symbol(p, registers::is_due(w.waiting), oldest);
+    let stepped = r.after_symbol(p, registers::is_due(p.delay, w.waiting), oldest);
     let registers = stepped.registers;
     let sums = sums_at(p, h, g, k, i, q, w, phase);
     let symbol = Symbol::make(
@@ -92,7 +92,7 @@ fn with_symbol(
         sums,
     );
     queue::join(&mut *e, &mut *err, w, symbol.e, symbol.err);
-    let position = queue::after_symbol(w);
+    let position = queue::after_symbol(p.delay, w);
     Pushed {
         registers,
         position,

@@ -12,13 +12,9 @@ use Rattle.registers.specs.declared.Registers.{Registers}
 use Rattle.registers.specs.declared.AfterSymbol.{AfterSymbol}
 use Rattle.registers.specs.Correct.{integratorEnd, corrected}
 
--- The errors of a symbol are applied at the symbol that comes this many later.
-abbrev pub loopDelay : ℕ
-loopDelay = 24
-
--- So errors are due where as many wait.
-abbrev pub isDue : ℕ → Bool
-isDue waiting = eqb waiting loopDelay
+-- The errors of a symbol are applied at the symbol that comes `delay` later. So the oldest are due where as many wait.
+abbrev pub isDue : ℕ → ℕ → Bool
+isDue delay waiting = eqb waiting delay
 
 -- The gain: the upper 16 of the accumulator's 24 bits.
 abbrev pub gainOf : Registers → ℕ

@@ -7,9 +7,6 @@ pub use lent::change;
 pub use lent::changed;
 pub use step::is_due;
 
-// The errors of a symbol are applied at the symbol that comes this many later.
-pub const LOOP_DELAY: usize = 24;
-
 // The errors that one symbol leaves: of the timing, and of the gain. They wait until the loop's delay is over.
 pub struct Pending {
     pub e: i32,

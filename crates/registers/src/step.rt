@@ -1,6 +1,5 @@
 // A symbol's step on the six registers: they change as one group, whatever they hold (RULES 3.11).
 use crate::AfterSymbol;
-use crate::LOOP_DELAY;
 use crate::Pending;
 use crate::Registers;
 use crate::correct;
@@ -10,11 +9,11 @@ ghost use Prim.Native.Nat.{_^_, _%_, _≤_, _<_};
 ghost use lib.IntN.{natAbs};
 ghost use Rattle.registers.specs.Step.{isDue, gainOf, canMakeSymbol, found, left, afterSymbol};
 
-// Whether errors are due where so many wait.
-pub fn is_due(waiting: usize) -> bool
-    ensures { λ b. ⌜ b ≡ isDue waiting ⌝ }
+// Whether errors are due where so many wait: the errors of a symbol are applied at the symbol that comes `delay` later.
+pub fn is_due(delay: u8, waiting: usize) -> bool
+    ensures { λ b. ⌜ b ≡ isDue delay waiting ⌝ }
 {
-    waiting == LOOP_DELAY
+    waiting == delay as usize
 }
 
 impl Registers {

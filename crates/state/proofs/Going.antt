@@ -13,9 +13,9 @@ use Rattle.arith.specs.Arith.{within}
 use Rattle.arith.proofs.Both.{and-left, and-right, and-both}
 use Rattle.registers.specs.declared.Registers.{Registers}
 use Rattle.registers.specs.Correct.{integratorEnd}
-use Rattle.registers.specs.Step.{loopDelay}
 use Rattle.registers.proofs.Loops.{loopOf, Within}
 use Rattle.state.specs.declared.Frontend.{Frontend}
+use Rattle.state.specs.Start.{ringPlaces}
 use Rattle.state.specs.Check.{goodState}
 
 -- ---- the time to the next symbol, in 2^24ths of a sample
@@ -34,8 +34,8 @@ pub record Going (p : Params) (f : Frontend) : Type 0 where
   pub whole : f .registers .«t_acc» ≡ pos (time f)
   pub soon : time f < 67108864
   pub loop : Within p (loopOf (f .registers))
-  pub waiting : f .waiting ≡ min (f .registers .symbols) loopDelay
-  pub oldest : f .oldest ≤ 23
+  pub waiting : f .waiting ≡ min (f .registers .symbols) (p .delay)
+  pub oldest : f .oldest < ringPlaces
   pub few : f .registers .symbols ≤ f .samples
 
 -- a number that is not below zero
@@ -54,8 +54,8 @@ going p f e =
     let b5 : Bool = leb (p .«period_min») (r .period) in
     let b6 : Bool = leb (r .period) (p .«period_max») in
     let b7 : Bool = leb (r .«gain_acc») 16777215 in
-    let b8 : Bool = eqb (f .waiting) (min (r .symbols) loopDelay) in
-    let b9 : Bool = leb (f .oldest) 23 in
+    let b8 : Bool = eqb (f .waiting) (min (r .symbols) (p .delay)) in
+    let b9 : Bool = ltb (f .oldest) ringPlaces in
     let b10 : Bool = leb (r .symbols) (f .samples) in
     let c2 : Bool = b1 && b2 in
     let c3 : Bool = c2 && b3 in
@@ -88,8 +88,8 @@ going p f e =
         high = leb-true (r .period) (p .«period_max») (and-right c5 b6 e6);
         gain = leb-true (r .«gain_acc») 16777215 (and-right c6 b7 e7);
       };
-      waiting = eqb-true (f .waiting) (min (r .symbols) loopDelay) (and-right c7 b8 e8);
-      oldest = leb-true (f .oldest) 23 (and-right c8 b9 e9);
+      waiting = eqb-true (f .waiting) (min (r .symbols) (p .delay)) (and-right c7 b8 e8);
+      oldest = ltb-true (f .oldest) ringPlaces (and-right c8 b9 e9);
       few = leb-true (r .symbols) (f .samples) (and-right c9 b10 e);
     }
 
@@ -105,6 +105,6 @@ good p f g =
     (le-leb _ _ (g .loop .low)))
     (le-leb _ _ (g .loop .high)))
     (le-leb _ _ (g .loop .gain)))
-    (eq-eqb (f .waiting) (min (f .registers .symbols) loopDelay) (g .waiting)))
-    (le-leb (f .oldest) 23 (g .oldest)))
+    (eq-eqb (f .waiting) (min (f .registers .symbols) (p .delay)) (g .waiting)))
+    (lt-ltb (f .oldest) ringPlaces (g .oldest)))
     (le-leb (f .registers .symbols) (f .samples) (g .few))

@@ -12,10 +12,10 @@ use Rattle.params.specs.Judge.{Sheet, faults}
 use Rattle.arith.specs.Arith.{within}
 use Rattle.registers.specs.declared.Registers.{Registers}
 use Rattle.registers.specs.Correct.{integratorEnd}
-use Rattle.registers.specs.Step.{loopDelay}
 use Rattle.state.specs.declared.Frontend.{Frontend}
 use Rattle.state.specs.declared.Position.{Position}
 use Rattle.state.specs.declared.FrontendVerdict.{FrontendVerdict}
+use Rattle.state.specs.Start.{ringPlaces}
 
 -- 9: the state is one that a block can go on from: positions within the line and the queue, time and registers within their bounds, and counts that agree.
 unfoldable pub goodState : Params → Frontend → Bool
@@ -24,7 +24,7 @@ goodState p f =
     ltb (f .head) (p .taps) && leZ (pos 0) (r .«t_acc») && ltZ (r .«t_acc») (pos 67108864)
     && within (negℤ (integratorEnd p)) (integratorEnd p) (r .v)
     && leb (p .«period_min») (r .period) && leb (r .period) (p .«period_max») && leb (r .«gain_acc») 16777215
-    && eqb (f .waiting) (min (r .symbols) loopDelay) && leb (f .oldest) 23 && leb (r .symbols) (f .samples)
+    && eqb (f .waiting) (min (r .symbols) (p .delay)) && ltb (f .oldest) ringPlaces && leb (r .symbols) (f .samples)
 
 -- 1 to 9, of a sheet and a state.
 abbrev pub stateFaults : Sheet → Frontend → List Refusal

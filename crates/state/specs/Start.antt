@@ -18,13 +18,17 @@ noPair = record { i = pos 0; q = pos 0 }
 abbrev pub noPending : Pending
 noPending = record { e = pos 0; err = pos 0 }
 
+-- The errors that wait stand in a ring of this many places, at every delay.
+abbrev pub ringPlaces : ℕ
+ringPlaces = 24
+
 -- A state at rest with this period and this gain accumulator: nothing in the line, nothing waiting, nothing counted.
 abbrev pub atRest : ℕ → ℕ → Frontend
 atRest period gain = record {
   registers = record { nco = 0; «t_acc» = pos 0; v = pos 0; period = period; «gain_acc» = gain; symbols = 0 };
   line = replicate 64 noPair;
   head = 0;
-  pending = replicate 24 noPending;
+  pending = replicate ringPlaces noPending;
   oldest = 0;
   waiting = 0;
   samples = 0;

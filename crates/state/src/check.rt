@@ -2,9 +2,9 @@
 use crate::Frontend;
 use crate::FrontendVerdict;
 use crate::Position;
+use crate::RING;
 use params::Params;
 use params::Verdict;
-use registers::LOOP_DELAY;
 use registers::Registers;
 ghost use mathlib.Core.Path.{_≡_};
 ghost use Rattle.params.specs.Refusal.{firstOf};
@@ -16,10 +16,11 @@ fn is_good_state(p: Params, r: Registers, w: Position) -> bool
     ensures { λ b. ⌜ b ≡ goodState p (outline r w) ⌝ }
 {
     let end = (p.integrator_max as i64) * 65536;
-    let waiting = if r.symbols < LOOP_DELAY as u64 {
+    let delay = p.delay as usize;
+    let waiting = if r.symbols < delay as u64 {
         r.symbols as usize
     } else {
-        LOOP_DELAY
+        delay
     };
     w.head < p.taps as usize
         && 0 <= r.t_acc
@@ -30,7 +31,7 @@ fn is_good_state(p: Params, r: Registers, w: Position) -> bool
         && r.period <= p.period_max
         && r.gain_acc <= 0xff_ffff
         && w.waiting == waiting
-        && w.oldest <= 23
+        && w.oldest < RING
         && r.symbols <= w.samples
 }
 

@@ -10,6 +10,9 @@ use registers::Registers;
 ghost use mathlib.Core.Path.{_≡_};
 ghost use Rattle.state.specs.Check.{frontendRefusal};
 
+// Places of the ring in which errors wait, at every delay: as many as the longest delay takes.
+pub const RING: usize = 24;
+
 // A sample, as it is mixed and kept in the line: in phase and in quadrature.
 pub struct Pair {
     pub i: i32,
@@ -22,8 +25,8 @@ pub struct Frontend {
     // The last `taps` mixed samples, and the newest's position, which falls modulo taps (RULES 3.4).
     pub line: [Pair; 64],
     pub head: usize,
-    // The waiting errors, a ring of 24: the oldest's position and how many wait.
-    pub pending: [Pending; 24],
+    // The waiting errors, a ring: the oldest's position and how many wait, at most the sheet's delay.
+    pub pending: [Pending; RING],
     pub oldest: usize,
     pub waiting: usize,
     // Samples taken so far.

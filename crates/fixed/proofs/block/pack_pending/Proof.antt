@@ -7,16 +7,16 @@ use lib.IntN.{pos}
 use mir.Syntax.{w32}
 use borrow.Author.Needs.{needs}
 use Rattle.arith.proofs.Bits.{held}
-use Rattle.state.specs.Start.{noPending}
+use Rattle.state.specs.Start.{ringPlaces, noPending}
 use Rattle.fixed.proofs.Filling.{Filled, filled-none, filled-next}
 use Rattle.fixed.proofs.block.pack_pending.Statement.{statement}
 use Rattle.fixed.proofs.block.pack_pending.Tie as tie
 
 abbrev Inv-loop : tie.InvT-loop
-Inv-loop e err packed₀ n₀ packed n = (n ≤ 24) × Filled noPending (λ m. record { e = getD e m (pos 0); err = getD err m (pos 0) }) n packed₀ packed
+Inv-loop e err packed₀ n₀ packed n = (n ≤ ringPlaces) × Filled noPending (λ m. record { e = getD e m (pos 0); err = getD err m (pos 0) }) n packed₀ packed
 
 abbrev μ-loop : tie.MeasureT-loop
-μ-loop e err packed₀ n₀ packed n = 24 - n
+μ-loop e err packed₀ n₀ packed n = ringPlaces - n
 
 loop-holds : tie.Need-loop-holds Inv-loop μ-loop
 loop-holds c = (

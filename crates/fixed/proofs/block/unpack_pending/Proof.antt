@@ -8,17 +8,17 @@ use lib.IntN.{pos}
 use mir.Syntax.{w32}
 use borrow.Author.Needs.{needs}
 use Rattle.arith.proofs.Bits.{held}
-use Rattle.state.specs.Start.{noPending}
+use Rattle.state.specs.Start.{ringPlaces, noPending}
 use Rattle.fixed.proofs.Filling.{Filled, filled-none, filled-next}
 use Rattle.fixed.proofs.block.unpack_pending.Statement.{statement}
 use Rattle.fixed.proofs.block.unpack_pending.Tie as tie
 
 abbrev Inv-loop : tie.InvT-loop
 Inv-loop e₀ err₀ pending n₀ e err n =
-    (n ≤ 24) × Filled (pos 0) (λ m. getD pending m noPending .e) n e₀ e × Filled (pos 0) (λ m. getD pending m noPending .err) n err₀ err
+    (n ≤ ringPlaces) × Filled (pos 0) (λ m. getD pending m noPending .e) n e₀ e × Filled (pos 0) (λ m. getD pending m noPending .err) n err₀ err
 
 abbrev μ-loop : tie.MeasureT-loop
-μ-loop e₀ err₀ pending n₀ e err n = 24 - n
+μ-loop e₀ err₀ pending n₀ e err n = ringPlaces - n
 
 loop-holds : tie.Need-loop-holds Inv-loop μ-loop
 loop-holds c =

@@ -24,11 +24,12 @@ use Rattle.symbol.specs.declared.Sums.{Sums}
 use Rattle.symbol.specs.declared.Symbol.{Symbol}
 use Rattle.symbol.specs.Make.{symbolFrom}
 use Rattle.state.specs.declared.Frontend.{Frontend}
+use Rattle.state.specs.Start.{ringPlaces}
 use Rattle.fixed.specs.Sample.{symbolOf, withSymbol}
 use Rattle.state.specs.Check.{outline}
 use Rattle.fixed.specs.Inside.{Kept, kept, Stands, GoesOn, MakesSymbol}
 use Rattle.state.proofs.Going.{Going}
-use Rattle.fixed.proofs.Kept.{dueIn, keptWith, ready-going, step-is, step-gain, with-symbol-on, stands-symbol, stands-with}
+use Rattle.fixed.proofs.Kept.{dueIn, keptWith, ready-going, ring-holds, step-is, step-gain, with-symbol-on, stands-symbol, stands-with}
 use Rattle.fixed.proofs.sample.with_symbol.Statement.{statement}
 use Rattle.fixed.proofs.sample.with_symbol.Tie as tie
 
@@ -91,7 +92,7 @@ module _ (c : tie.After-after-symbol) where
       let a = at .args in
       let due = c .before in
       c .after-symbol .ensures ∙ ap (λ (b : Bool). afterSymbol (a .p) (a .r) b (due .before .oldest .result)) (due .is-due .ensures)
-      ∙ ap (afterSymbol (a .p) (a .r) (isDue (a .w .waiting))) (due .before .oldest .ensures) ∙ step-is (at .pre .0) (at .pre .1)
+      ∙ ap (afterSymbol (a .p) (a .r) (isDue (a .p .delay) (a .w .waiting))) (due .before .oldest .ensures) ∙ step-is (at .pre .0) (at .pre .1)
 
   registers-are : c .after-symbol .result .registers ≡ left (dueIn (at .args .p) (x at))
   registers-are = ap (λ (z : AfterSymbol). z .registers) stepped
@@ -120,12 +121,12 @@ make-requires c κs = search needs
 join-requires : tie.Need-join-requires
 join-requires c κs =
     let b = at (c .before .before .before .before .before .before .before .before) in
-    ((b .pre .0 .begun .long-e, b .pre .0 .begun .long-err), (omega (arith, going-at b .oldest), omega (arith, going-at b .waiting)))
+    ((b .pre .0 .begun .long-e, b .pre .0 .begun .long-err), (going-at b .oldest, ring-holds (b .pre .0)))
 
 after-symbol-requires-2 : tie.Need-after-symbol-requires-2
 after-symbol-requires-2 c κs =
     let b = at (c .before .before .before .before .before .before .before .before .before .before .before) in
-    (omega (arith, going-at b .oldest), (omega (arith, going-at b .waiting), b .pre .0 .room))
+    (going-at b .oldest, (ring-holds (b .pre .0), b .pre .0 .room))
 
 same-length : tie.Need-same-length
 same-length c = search needs
@@ -153,12 +154,12 @@ module _ (c : tie.After-after-symbol2) where
       (c .after-symbol2 .result)
 
   -- the queue with the symbol's errors
-  timing-queued : joined .join .last .0 ≡ set (b .args .e .now) ((b .args .w .oldest + b .args .w .waiting) % 24) (made .make .result .e)
+  timing-queued : joined .join .last .0 ≡ set (b .args .e .now) ((b .args .w .oldest + b .args .w .waiting) % ringPlaces) (made .make .result .e)
   timing-queued =
       joined .join .ensures .0
       ∙ ap (set (b .args .e .now) _) (held w32 (made .make .result .e) (joined .before .before .struct-told2 .given .1 .1 .1 .1 .1 .1 .1 .1 .1 .1 .1 .0 .1))
 
-  gain-queued : joined .join .last .1 .0 ≡ set (b .args .err .now) ((b .args .w .oldest + b .args .w .waiting) % 24) (made .make .result .err)
+  gain-queued : joined .join .last .1 .0 ≡ set (b .args .err .now) ((b .args .w .oldest + b .args .w .waiting) % ringPlaces) (made .make .result .err)
   gain-queued =
       joined .join .ensures .1
       ∙ ap (set (b .args .err .now) _) (held w32 (made .make .result .err) (joined .before .struct-told3 .given .1 .1 .1 .1 .1 .1 .1 .1 .1 .1 .1 .1 .0 .1))

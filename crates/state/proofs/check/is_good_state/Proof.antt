@@ -8,14 +8,15 @@ use native.Mathlib.Omega.{arith}
 use lib.Dec.{eqb, leb, ltb}
 use lib.IntN.{ℤ, pos, negℤ, +ℤ-idl}
 use lib.Signed.{leZ, ltZ}
-use mir.Syntax.{w32, w64}
+use mir.Syntax.{w8, w32, w64}
+use mir.Facts.{fits-widen}
 use mir.Val.{SFits}
 use borrow.Author.Needs.{needs}
 use borrow.Author.Tests.{lt-ltb, le-ltb}
 use Rattle.arith.proofs.Bits.{held, widens, widened}
 use Rattle.arith.specs.Arith.{within}
-use Rattle.registers.specs.Step.{loopDelay}
 use Rattle.registers.specs.Correct.{integratorEnd}
+use Rattle.state.specs.Start.{ringPlaces}
 use Rattle.state.specs.Check.{goodState, outline}
 use Rattle.registers.proofs.Integrator.{end-fits, low-fits, end-is, low-test, high-test}
 use Rattle.arith.proofs.Tested.{with-next, and-next}
@@ -33,24 +34,27 @@ cast-end c = widens w64 tt (most c)
 mul-end : tie.Need-mul-end
 mul-end c = simp (widened w64 tt (most c)) (end-fits (most c))
 
+cast-delay : tie.Need-cast-delay
+cast-delay c = fits-widen {w = w8} tt (c .struct-known2 .given .1 .1 .1 .1 .1 .1 .1 .1 .1 .1 .1 .1 .1 .1 .1 .1 .1 .0)
+
 cast-if2 : tie.Need-cast-if2
 cast-if2 c = search needs
 
 sub-if5 : tie.Need-sub-if5
-sub-if5 c = let m = most (c .before .before .before .before .before .before .before) in simp (end-is m, +ℤ-idl) (low-fits m)
+sub-if5 c = let m = most (c .before .before .before .before .before .before .before .before) in simp (end-is m, +ℤ-idl) (low-fits m)
 
 -- ---- how many errors wait
 
-under : (n : ℕ) → n < 24 → n ≡ min n 24
-under n h = omega arith
+under : (n delay : ℕ) → n < delay → n ≡ min n delay
+under n delay h = omega arith
 
-over : (n : ℕ) → 24 ≤ n → 24 ≡ min n 24
-over n h = omega arith
+over : (n delay : ℕ) → delay ≤ n → delay ≡ min n delay
+over n delay h = omega arith
 
-waits : (c : tie.Joined1) → c .if1 .waiting ≡ min (c .before .before .before .before .args .r .symbols) loopDelay
+waits : (c : tie.Joined1) → let a = c .before .before .before .before .before .args in c .if1 .waiting ≡ min (a .r .symbols) (a .p .delay)
 waits c =
-    let n = c .before .before .before .before .args .r .symbols in
-    ⊎-elim (λ t. t .1 ∙ under n (t .0 .taken)) (λ e. e .1 ∙ over n (e .0 .left)) (c .if1 .came)
+    let a = c .before .before .before .before .before .args in
+    ⊎-elim (λ t. t .1 ∙ under (a .r .symbols) (a .p .delay) (t .0 .taken)) (λ e. e .1 ∙ over (a .r .symbols) (a .p .delay) (e .0 .left)) (c .if1 .came)
 
 -- ---- the tests so far, and the next
 
@@ -71,11 +75,11 @@ module _ (s : tie.Start) where
       && leb (s .args .r .«gain_acc») 16777215
 
   abbrev good10 : Bool
-  good10 = good8 && eqb (s .args .w .waiting) (min (s .args .r .symbols) loopDelay) && leb (s .args .w .oldest) 23
+  good10 = good8 && eqb (s .args .w .waiting) (min (s .args .r .symbols) (s .args .p .delay)) && ltb (s .args .w .oldest) ringPlaces
 
 -- where the function began, from its second test and from its tenth
 abbrev start : tie.Joined2 → tie.Start
-start c = c .before .before .before .before .before .before .before
+start c = c .before .before .before .before .before .before .before .before
 
 abbrev start-10 : tie.Joined10 → tie.Start
 start-10 c = start (c .before .before .before .before .before .before .before .before)
@@ -97,7 +101,7 @@ passed5 : (c : tie.Joined5) → c .if5 .if6 ≡ good5 (start (c .before .before 
 passed5 c =
     let s = start (c .before .before .before) in
     let v = s .args .r .v in
-    let m = most (c .before .before .before .before .before .before .before .before) in
+    let m = most (c .before .before .before .before .before .before .before .before .before) in
     let high = integratorEnd (s .args .p) in
     and-next
     (and-next (passed3 (c .before .before)) (c .before .if4 .came) (λ t. (t .0 .taken, t .3 ∙ low-test m v (t .2 .given .1 .1 .0 .1)))
@@ -139,4 +143,4 @@ returns-2 : tie.Need-returns-2
 returns-2 c = c .if11 .left ∙ but-last (c .before) false (c .if11 .left)
 
 pub is-good-state-spec : {M : Type 1} → statement M
-is-good-state-spec = tie.close (tie.spec cast-end mul-end cast-if2 sub-if5 returns returns-2)
+is-good-state-spec = tie.close (tie.spec cast-end mul-end cast-delay cast-if2 sub-if5 returns returns-2)
