@@ -15,13 +15,12 @@ use Rattle.params.proofs.Accepted.{Accepted, judged-none, no-faults}
 use Rattle.state.specs.declared.Frontend.{Frontend}
 use Rattle.symbol.specs.declared.Symbol.{Symbol}
 use Rattle.state.specs.Start.{startOf}
-use Rattle.registers.specs.Step.{loopDelay}
 use Rattle.state.specs.Check.{goodState, stateFaults, sizeFaults, blockFaults}
 use Rattle.fixed.specs.Block.{accepted, blockOf}
 use Rattle.timing.specs.Lists.{Call, answer, endState}
 use Rattle.timing.specs.Timing.{StatesGoOn}
 use Rattle.state.proofs.Going.{Going, good}
-use Rattle.timing.proofs.Invariant.{Inv, loopAt-within}
+use Rattle.timing.proofs.Invariant.{loopDelay, Inv, loopAt-within}
 use Rattle.timing.proofs.Timing.{ends-inv}
 
 -- a state that a run has led to
@@ -30,7 +29,7 @@ going s a f S i = record {
   head = i .head;
   whole = i .whole;
   soon = omega arith;
-  loop = rw (i .loop) (loopAt-within s a S loopDelay);
+  loop = rw (i .loop) (loopAt-within s a S (loopDelay s));
   waiting = rw (i .symbols) (i .waiting);
   oldest = omega arith;
   few = omega arith;

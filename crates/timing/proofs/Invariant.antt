@@ -20,8 +20,8 @@ use Rattle.registers.specs.declared.Pending.{Pending}
 use Rattle.registers.specs.declared.Registers.{Registers}
 use Rattle.state.specs.declared.Frontend.{Frontend}
 use Rattle.symbol.specs.declared.Symbol.{Symbol}
-use Rattle.state.specs.Start.{noPending, fresh}
-use Rattle.registers.specs.Step.{loopDelay, one, found, left}
+use Rattle.state.specs.Start.{ringPlaces, noPending, fresh}
+use Rattle.registers.specs.Step.{isDue, one, found, left}
 use Rattle.fixed.specs.Sample.{due, symbolOf, joined, withSymbol, withoutSymbol, falls, next, madeBy, after, emitted}
 use Rattle.symbol.specs.Make.{symbolFrom}
 use Rattle.state.proofs.Going.{time, minus-nat}
@@ -30,6 +30,9 @@ use Rattle.registers.proofs.Loops.{Loop, loopOf, corrected-moves, Within}
 use Rattle.timing.proofs.Errors.{total, total-append, errors, errorsOf, errors-append, length-errors, movedBy, movedBy-snoc, freshLoop, loop-within}
 
 module _ (s : Sheet) where
+  abbrev pub loopDelay : ℕ
+  loopDelay = s .params .delay
+
   -- the loop after the errors of all but the newest `late` of the symbols S
   abbrev pub loopAt : List Symbol → ℕ → Loop
   loopAt S late = movedBy (s .params) (freshLoop (s .params)) (take (length S - late) (errors S))
@@ -40,10 +43,10 @@ module _ (s : Sheet) where
     pub sum : f .samples * 16777216 + time f ≡ total S
     pub rest : time f < 67108863
     pub loop : loopOf (f .registers) ≡ loopAt S loopDelay
-    pub size : length (f .pending) ≡ 24
+    pub size : length (f .pending) ≡ ringPlaces
     pub waiting : f .waiting ≡ min (length S) loopDelay
-    pub oldest : f .oldest ≡ (length S - loopDelay) % 24
-    pub queue : (j : ℕ) → j < length S → length S ≤ j + loopDelay → getD (f .pending) (j % 24) noPending ≡ getD (errors S) j noPending
+    pub oldest : f .oldest ≡ (length S - loopDelay) % ringPlaces
+    pub queue : (j : ℕ) → j < length S → length S ≤ j + loopDelay → getD (f .pending) (j % ringPlaces) noPending ≡ getD (errors S) j noPending
     pub few : length S ≤ f .samples
     pub head : f .head < s .params .taps
 
@@ -76,10 +79,12 @@ module _ (s : Sheet) where
       whole = refl;
       sum = refl;
       rest = omega arith;
-      loop = refl;
+      loop =
+          let none : 0 ≡ 0 - loopDelay = omega arith in
+          ap (λ (n : ℕ). movedBy (s .params) (freshLoop (s .params)) (take n (errors []))) none;
       size = refl;
-      waiting = refl;
-      oldest = refl;
+      waiting = omega arith;
+      oldest = omega arith;
       queue = λ j h k. absurd (omega arith);
       few = omega arith;
       head = omega (arith, a .lengths .good .least);
@@ -129,7 +134,7 @@ module _ (s : Sheet) where
     -- the loop as a symbol finds it: after the errors of all but the newest before it, one fewer than the delay
     due-loop : (f : Frontend) (S : List Symbol) → Inv f S → loopOf (due (s .params) f) ≡ loopAt S (loopDelay - 1)
     unfolding due found
-    due-loop f S i = go (eqb (f .waiting) loopDelay) refl
+    due-loop f S i = go (isDue loopDelay (f .waiting)) refl
       where
         p : Params
         p = s .params
@@ -140,7 +145,7 @@ module _ (s : Sheet) where
         oldest : Pending
         oldest = getD (f .pending) (f .oldest) noPending
 
-        go : (b : Bool) → eqb (f .waiting) loopDelay ≡ b → loopOf (due (s .params) f) ≡ loopAt S (loopDelay - 1)
+        go : (b : Bool) → isDue loopDelay (f .waiting) ≡ b → loopOf (due (s .params) f) ≡ loopAt S (loopDelay - 1)
         go true e =
             let c : f .waiting ≡ loopDelay = eqb-true (f .waiting) loopDelay e in
             let q : oldest ≡ getD (errors S) n noPending = rw (i .oldest) (i .queue n (omega arith) (omega arith)) in
@@ -164,8 +169,8 @@ module _ (s : Sheet) where
       gain = ap (λ (l : Loop). l .gain / 256) (due-loop f S i);
     }
 
-    -- a new error goes to the place of its symbol's number modulo 24
-    slot : (f : Frontend) (S : List Symbol) → Inv f S → (f .oldest + f .waiting) % 24 ≡ length S % 24
+    -- a new error goes to the place of its symbol's number modulo the ring's places
+    slot : (f : Frontend) (S : List Symbol) → Inv f S → (f .oldest + f .waiting) % ringPlaces ≡ length S % ringPlaces
     slot f S i = omega arith
 
     -- a symbol more leaves the errors that are due as they were
@@ -176,38 +181,38 @@ module _ (s : Sheet) where
         rw (m, errors-append S (y ∷ []), take-append-le (length S - (loopDelay - 1)) (errors S) (errorsOf y ∷ []) (omega (arith, length-errors S)))
 
     -- the ring, a symbol on
-    queue-snoc : (l : List Pending) (S : List Symbol) (w : Pending) → length l ≡ 24
-        → ((j : ℕ) → j < length S → length S ≤ j + loopDelay → getD l (j % 24) noPending ≡ getD (errors S) j noPending)
+    queue-snoc : (l : List Pending) (S : List Symbol) (w : Pending) → length l ≡ ringPlaces
+        → ((j : ℕ) → j < length S → length S ≤ j + loopDelay → getD l (j % ringPlaces) noPending ≡ getD (errors S) j noPending)
         → (j : ℕ) → j < length S + 1 → length S + 1 ≤ j + loopDelay
-        → getD (set l (length S % 24) w) (j % 24) noPending ≡ getD (errors S ++ (w ∷ [])) j noPending
+        → getD (set l (length S % ringPlaces) w) (j % ringPlaces) noPending ≡ getD (errors S ++ (w ∷ [])) j noPending
     queue-snoc l S w z q j u v = go (eqb j (length S)) refl
       where
-        go : (e : Bool) → eqb j (length S) ≡ e → getD (set l (length S % 24) w) (j % 24) noPending ≡ getD (errors S ++ (w ∷ [])) j noPending
+        go : (e : Bool) → eqb j (length S) ≡ e → getD (set l (length S % ringPlaces) w) (j % ringPlaces) noPending ≡ getD (errors S ++ (w ∷ [])) j noPending
         go true e =
             rw (
               eqb-true j (length S) e,
-              getD-set-same l (length S % 24) w noPending (omega arith),
+              getD-set-same l (length S % ringPlaces) w noPending (omega arith),
               getD-at (errors S) w [] noPending (length S) (length-errors S),
             )
         go false e =
             let d : j ≢ length S = eqb-false j (length S) e in
             rw (
-              getD-set-other l (length S % 24) (j % 24) w noPending (omega arith),
+              getD-set-other l (length S % ringPlaces) (j % ringPlaces) w noPending (omega arith),
               List·getD-append (errors S) (w ∷ []) noPending j (omega (arith, length-errors S)),
             )
             (q j (omega arith) (omega arith))
 
-    waiting-next : (n c : ℕ) → c ≡ min n loopDelay → cond (eqb c loopDelay) loopDelay (c + 1) ≡ min (n + 1) loopDelay
-    waiting-next n c h = go (eqb c loopDelay) refl
+    waiting-next : (n c : ℕ) → c ≡ min n loopDelay → cond (isDue loopDelay c) c (c + 1) ≡ min (n + 1) loopDelay
+    waiting-next n c h = go (isDue loopDelay c) refl
       where
-        go : (e : Bool) → eqb c loopDelay ≡ e → cond (eqb c loopDelay) loopDelay (c + 1) ≡ min (n + 1) loopDelay
+        go : (e : Bool) → isDue loopDelay c ≡ e → cond (isDue loopDelay c) c (c + 1) ≡ min (n + 1) loopDelay
         go true e = rw e (omega (arith, eqb-true c loopDelay e))
         go false e = let d : c ≢ loopDelay = eqb-false c loopDelay e in rw e (omega arith)
 
-    oldest-next : (n c o : ℕ) → c ≡ min n loopDelay → o ≡ (n - loopDelay) % 24 → cond (eqb c loopDelay) ((o + 1) % 24) o ≡ (n + 1 - loopDelay) % 24
-    oldest-next n c o h l = go (eqb c loopDelay) refl
+    oldest-next : (n c o : ℕ) → c ≡ min n loopDelay → o ≡ (n - loopDelay) % ringPlaces → cond (isDue loopDelay c) ((o + 1) % ringPlaces) o ≡ (n + 1 - loopDelay) % ringPlaces
+    oldest-next n c o h l = go (isDue loopDelay c) refl
       where
-        go : (e : Bool) → eqb c loopDelay ≡ e → cond (eqb c loopDelay) ((o + 1) % 24) o ≡ (n + 1 - loopDelay) % 24
+        go : (e : Bool) → isDue loopDelay c ≡ e → cond (isDue loopDelay c) ((o + 1) % ringPlaces) o ≡ (n + 1 - loopDelay) % ringPlaces
         go true e = rw e (omega (arith, eqb-true c loopDelay e))
         go false e = let d : c ≢ loopDelay = eqb-false c loopDelay e in rw e (omega arith)
 

@@ -76,11 +76,12 @@ pub record SameTiming (a b : List ℤ) (k : ℕ) : Type 0 where
   pub gain : gainAt a k ≡ gainAt b k
 
 module _ (s : Sheet) (cs ds : List Call) where
-  -- 4. The second list has symbols 0 to i too, place for place, and what the loop decides is the same up to 24 symbols further, in every symbol that both have.
+  -- 4. The second list has symbols 0 to i too, place for place, and what the loop decides is the same up to the sheet's delay further, in every symbol that
+  -- both have.
   pub record Delayed (i : ℕ) : Type 0 where
     pub has : i < symbolCount s ds
     pub same : (k : ℕ) → k ≤ i → (j : ℕ) → j < 20 → placeAt (placesWritten s cs) k j ≡ placeAt (placesWritten s ds) k j
-    pub ahead : (k : ℕ) → k ≤ i + 24 → k < symbolCount s cs → k < symbolCount s ds → SameTiming (placesWritten s cs) (placesWritten s ds) k
+    pub ahead : (k : ℕ) → k ≤ i + s .params .delay → k < symbolCount s cs → k < symbolCount s ds → SameTiming (placesWritten s cs) (placesWritten s ds) k
 
   -- 5. The same symbols, place for place, and the same end state, field for field.
   pub record SameRun : Type 0 where
@@ -95,7 +96,7 @@ pub record Timing (s : Sheet) : Type 0 where
   pub place : (cs : List Call) (k : ℕ) → k < symbolCount s cs → Place s cs k
   pub apart : (cs : List Call) (k : ℕ) → k + 1 < symbolCount s cs → Apart s cs k
   pub rest : (cs : List Call) → Rest s cs
-  -- errors act 24 symbols later and never sooner: the two lists' samples agree up to symbol i's own in the first, whatever comes later
+  -- errors act as many symbols later as the sheet's delay and never sooner: the two lists' samples agree up to symbol i's own in the first, whatever comes later
   pub delay : (cs ds : List Call) (i n : ℕ) → i < symbolCount s cs → sampleAt (placesWritten s cs) i ≡ pos n
       → AgreeUpTo n (samplesOf s cs) (samplesOf s ds) → Delayed s cs ds i
   -- how the samples are cut into blocks, and what was refused between them, changes nothing
