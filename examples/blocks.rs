@@ -1,9 +1,10 @@
 //! blocks FILE: the symbols of a recording, taken as a catalogue takes them, in blocks.
 //!
-//! The file is what the symbol program reads: a line with the 17 fields of a sheet, 64 rows of each of the banks h, g and k, then a pair I,Q a line, all in
+//! The file is what the symbol program reads: a line with the 18 fields of a sheet, 64 rows of each of the banks h, g and k, then a pair I,Q a line, all in
 //! decimal and separated by commas. It prints each symbol's 20 places and then the end line, as the symbol program does. What is wrong goes to standard
 //! error, with the line, and the exit status is then 1.
 
+use huntelm::archive::SHEET;
 use huntelm::{Frontend, Params, Refusal, Symbol};
 use std::env;
 use std::error::Error;
@@ -102,7 +103,7 @@ impl Recording {
 
     /// A front end under the sheet with which the recording begins.
     fn front_end(&mut self) -> Result<Frontend, Box<dyn Error>> {
-        let Some(fields) = self.read_line(17)? else {
+        let Some(fields) = self.read_line(SHEET)? else {
             return Err(self.fault("the file is empty"));
         };
         // With no banks yet their length is what is refused, unless the line itself is.

@@ -1,7 +1,7 @@
 /*
  * one_by_one FILE: the symbols of a recording, taken as a receiver's firmware takes them, one sample after another.
  *
- * The file is what the symbol program reads: a line with the 17 fields of a sheet, 64 rows of each of the banks h, g and k, then a pair I,Q a line, all in
+ * The file is what the symbol program reads: a line with the 18 fields of a sheet, 64 rows of each of the banks h, g and k, then a pair I,Q a line, all in
  * decimal and separated by commas. It prints each symbol's 20 places and then the end line, as the symbol program does. What is wrong goes to standard
  * error, with the line, and the exit status is then 1.
  */
@@ -15,6 +15,7 @@
 #define LONGEST 1024
 #define BANK (HUNTELM_ROWS * HUNTELM_MAX_TAPS)
 
+/* What a refusal's number says. No call answers 20 to 28. */
 static const char *const refusals[] = {
     "nothing",
     "taps are odd, below 4 or above 64",
@@ -36,6 +37,7 @@ static const char *const refusals[] = {
     "the trim is outside -0.5 .. 0.5",
     "not the number of places that a sheet has",
     "a number is outside the type of its place",
+    [HUNTELM_REFUSED_DELAY] = "the delay is outside 1 .. 24",
 };
 
 struct recording {

@@ -5,7 +5,7 @@
  * memset. It keeps nothing between calls and allocates nothing, so calls on different buffers may run at the same time.
  *
  * What crosses
- *   a sheet     17 places, the parameters of a run; a place is an int64_t (enum huntelm_sheet_place)
+ *   a sheet     18 places, the parameters of a run; a place is an int64_t (enum huntelm_sheet_place)
  *   a bank      64 rows of taps coefficients, row by row; a sheet has three: h and g for the timing detector, k for the output
  *   a state     186 places (enum huntelm_state_place); huntelm_start writes it, huntelm_block takes it further, and nobody else has to look into it
  *   samples     int16_t, I before Q
@@ -16,6 +16,11 @@
  *   The period of one symbol, or of a state, has the loop's correction for one noisy error in it, and jumps by thousands of parts in a million from symbol to
  *   symbol. What says how fast the sender's clock is beside the recorder's is the mean of the periods of thousands of symbols, once the loop has locked
  *   (huntelm_offset). That it has locked no call says: look at the spread of the output's size (docs/GUIDE.md).
+ *
+ * What the delay does
+ *   A symbol leaves two errors, one of its timing and one of its gain, which wait in the state until the loop's delay is over. A delay is a number of symbols:
+ *   the errors of symbol n correct period and gain right before symbol n + delay is made. So the first symbols, delay of them, have the period and the gain of
+ *   the start. A delay is from 1, where a symbol's errors act on the very next symbol, to 24, and that of a design is 24.
  *
  * What the calls owe you
  *   No values and no lengths are wrong to call with. Whatever is lent, a call answers, and where something is wrong it answers the number of the
@@ -38,7 +43,7 @@
 extern "C" {
 #endif
 
-#define HUNTELM_SHEET_PLACES 17
+#define HUNTELM_SHEET_PLACES 18
 #define HUNTELM_STATE_PLACES 186
 #define HUNTELM_SYMBOL_PLACES 20
 #define HUNTELM_READ_PLACES 3
@@ -51,7 +56,7 @@ extern "C" {
 /* Most taps of a row. */
 #define HUNTELM_MAX_TAPS 64
 
-/* What a call refuses. */
+/* What a call refuses. 20 is none of these: it is the symbol program's, for an input that ends too early. 21 to 28 are not used. */
 enum huntelm_refusal {
     HUNTELM_ACCEPTED = 0,
 
@@ -62,8 +67,9 @@ enum huntelm_refusal {
     HUNTELM_REFUSED_COEFFICIENT_SUM = 4,     /* a row whose magnitudes sum to more than 131071 */
     HUNTELM_REFUSED_DETECTOR_TAPS = 5,       /* h or g: a coefficient other than 0 outside the 8 in the middle of a row */
     HUNTELM_REFUSED_PERIOD_BOUNDS = 6,       /* periods: anything but 2^24 < min <= nominal <= max < 2^26 */
-    HUNTELM_REFUSED_RANGE = 7,               /* another field outside the range that its place below has */
+    HUNTELM_REFUSED_RANGE = 7,               /* any other field, but agc_shift and delay, outside the range that its place below has */
     HUNTELM_REFUSED_AGC_SHIFT = 8,           /* agc_shift above 63 */
+    HUNTELM_REFUSED_DELAY = 29,              /* delay outside 1 .. 24 */
 
     /* Of states, samples and buffers. */
     HUNTELM_REFUSED_STATE = 9,               /* not 186 places, a number that its place does not take, or a position, count or register outside its bounds
@@ -106,7 +112,8 @@ enum huntelm_sheet_place {
     HUNTELM_SHEET_AGC_SHIFT = 13,      /* uint8_t (0 .. 63): shift of the gain error */
     HUNTELM_SHEET_BITS = 14,           /* uint8_t (2 .. 8): bits of an output component */
     HUNTELM_SHEET_Q_SHIFT = 15,        /* uint8_t (0 .. 15): shift to them */
-    HUNTELM_SHEET_BLOCK_LOG2 = 16      /* uint8_t (8 .. 15): log2 of the symbols that are stored as one block; no symbol depends on it */
+    HUNTELM_SHEET_BLOCK_LOG2 = 16,     /* uint8_t (8 .. 15): log2 of the symbols that are stored as one block; no symbol depends on it */
+    HUNTELM_SHEET_DELAY = 17           /* uint8_t (1 .. 24): the loop's delay, in symbols: how many later a symbol's errors act */
 };
 
 /* The places of a symbol. */
@@ -129,7 +136,7 @@ enum huntelm_symbol_place {
     HUNTELM_SYMBOL_ZK_Q = 15,
     HUNTELM_SYMBOL_Q_I = 16,   /* the output, as many bits wide as the sheet says */
     HUNTELM_SYMBOL_Q_Q = 17,
-    HUNTELM_SYMBOL_E = 18,     /* its timing error, which acts 24 symbols later */
+    HUNTELM_SYMBOL_E = 18,     /* its timing error, which acts as many symbols later as the sheet's delay says */
     HUNTELM_SYMBOL_ERR = 19    /* its gain error, likewise */
 };
 
@@ -142,11 +149,11 @@ enum huntelm_state_place {
     HUNTELM_STATE_GAIN_ACC = 4, /* gain accumulator, 256 times the gain */
     HUNTELM_STATE_SYMBOLS = 5,  /* symbols so far */
     HUNTELM_STATE_HEAD = 6,     /* where the newest pair of the line stands */
-    HUNTELM_STATE_OLDEST = 7,   /* where the errors stand that have waited longest */
-    HUNTELM_STATE_WAITING = 8,  /* how many errors wait */
+    HUNTELM_STATE_OLDEST = 7,   /* where the errors stand that have waited longest: 0 .. 23, whatever the delay */
+    HUNTELM_STATE_WAITING = 8,  /* how many pairs of errors wait: symbols so far or the sheet's delay, whichever is less */
     HUNTELM_STATE_SAMPLES = 9,  /* samples so far */
     HUNTELM_STATE_LINE = 10,    /* from here 64 pairs i, q */
-    HUNTELM_STATE_PENDING = 138 /* from here 24 pairs e, err */
+    HUNTELM_STATE_PENDING = 138 /* from here a ring of 24 pairs e, err, whatever the delay; those that wait stand from the oldest on, and behind 23 comes 0 */
 };
 
 /* What huntelm_read writes. */
@@ -180,14 +187,14 @@ enum huntelm_field_place {
 /*
  * Judges a sheet with its banks. Answers 0 where it is accepted.
  *
- * Refusals, in order: 18 sheet_len is not 17; 19; 1 to 8.
+ * Refusals, in order: 18 sheet_len is not 18; 19; 1 to 8, 29.
  */
 uint32_t huntelm_judge(const int64_t *sheet, size_t sheet_len, const int32_t *h, size_t h_len, const int32_t *g, size_t g_len, const int32_t *k, size_t k_len);
 
 /*
  * Writes the state of a fresh start to all 186 places of state, whatever they held. Answers 0.
  *
- * Refusals, in order: 18, 19, 1 to 8; 9 state_len is not 186.
+ * Refusals, in order: 18, 19, 1 to 8, 29; 9 state_len is not 186.
  */
 uint32_t huntelm_start(const int64_t *sheet, size_t sheet_len, const int32_t *h, size_t h_len, const int32_t *g, size_t g_len, const int32_t *k, size_t k_len,
                        int64_t *state, size_t state_len);
@@ -199,9 +206,10 @@ uint32_t huntelm_start(const int64_t *sheet, size_t sheet_len, const int32_t *h,
  * A sample gives one symbol at most, and out needs 20 places for each sample, though fewer are written. How samples are cut into blocks changes nothing:
  * one after another they give the same symbols as all at once. Every call judges the sheet, so large blocks cost less a sample.
  *
- * Go on with the sheet and the banks of the start. Under others a state may be refused (9), or taken as one of theirs.
+ * Go on with the sheet and the banks of the start. Under others a state may be refused (9), or taken as one of theirs. Under another delay it is refused
+ * unless as many errors wait as that delay asks for (HUNTELM_STATE_WAITING).
  *
- * Refusals, in order: 18, 19, 1 to 8; 9; 10 values_len is odd; 11 out_len / 20 is less than values_len / 2; 12. The state is then as it was.
+ * Refusals, in order: 18, 19, 1 to 8, 29; 9; 10 values_len is odd; 11 out_len / 20 is less than values_len / 2; 12. The state is then as it was.
  */
 int64_t huntelm_block(const int64_t *sheet, size_t sheet_len, const int32_t *h, size_t h_len, const int32_t *g, size_t g_len, const int32_t *k, size_t k_len,
                       int64_t *state, size_t state_len, const int16_t *values, size_t values_len, int64_t *out, size_t out_len);
@@ -210,7 +218,7 @@ int64_t huntelm_block(const int64_t *sheet, size_t sheet_len, const int32_t *h, 
  * Writes period, gain and number of symbols of a state to the first three places of answer (enum huntelm_read_place). Answers 0. The period is that of one
  * symbol, and says nothing of a clock.
  *
- * Refusals, in order: 18, 19, 1 to 8; 9; 11 answer_len is below 3.
+ * Refusals, in order: 18, 19, 1 to 8, 29; 9; 11 answer_len is below 3.
  */
 uint32_t huntelm_read(const int64_t *sheet, size_t sheet_len, const int32_t *h, size_t h_len, const int32_t *g, size_t g_len, const int32_t *k, size_t k_len,
                       const int64_t *state, size_t state_len, int64_t *answer, size_t answer_len);
@@ -222,7 +230,7 @@ uint32_t huntelm_read(const int64_t *sheet, size_t sheet_len, const int32_t *h, 
  * Ask it for the mean of the periods of thousands of symbols: what it writes is then the clock's offset. For the period of one symbol or of a reading it is
  * noise, since such a period has the loop's proportional term in it.
  *
- * Refusals, in order: 18, 19, 1 to 8; 13; 11 answer_len is 0.
+ * Refusals, in order: 18, 19, 1 to 8, 29; 13; 11 answer_len is 0.
  */
 uint32_t huntelm_offset(const int64_t *sheet, size_t sheet_len, const int32_t *h, size_t h_len, const int32_t *g, size_t g_len, const int32_t *k, size_t k_len,
                         uint32_t period, int64_t *answer, size_t answer_len);
@@ -237,9 +245,10 @@ uint32_t huntelm_sample(const float *floats, size_t floats_len, int16_t *values,
 
 /*
  * Makes a sheet of a design: five rates (enum huntelm_rate_place), eight whole numbers (enum huntelm_field_place) and the three banks, and judges it.
- * Writes the sheet to the first 17 places of sheet. Answers 0.
+ * Writes the sheet, with a delay of 24, to the first 18 places of sheet. Answers 0.
  *
- * Refusals, in order: 18 rates_len is not 5 or fields_len is not 8; 19 a field outside its type; 14 to 17; 1 to 8; 11 sheet_len is below 17.
+ * Refusals, in order: 18 rates_len is not 5 or fields_len is not 8; 19 a field outside its type; 14 to 17; 1 to 8, 29, which a delay of 24
+ * never meets; 11 sheet_len is below 18.
  */
 uint32_t huntelm_design(const double *rates, size_t rates_len, const int64_t *fields, size_t fields_len,
                         const int32_t *h, size_t h_len, const int32_t *g, size_t g_len, const int32_t *k, size_t k_len, int64_t *sheet, size_t sheet_len);

@@ -1,12 +1,16 @@
 #!/bin/sh
-# Builds isdb-rs's front end unchanged, compares what it answers with what this repository answers, and says how many answers were
-# compared and how many differed. Run it as `make oracle`. SCALE=10 makes every part ten times as large, the float samples excepted: of these STEP=1 takes all.
+# Builds isdb-rs's front end unchanged, and 23 times with another loop delay, compares what it answers with what this repository answers, and says how many
+# answers were compared and how many differed. Run it as `make oracle`. SCALE=10 makes every part ten times as large, the float samples excepted: of these
+# STEP=1 takes all.
 set -eu
 cd "$(dirname "$0")/.."
 : "${RT:=rt}" "${ISDB_RS:=../shared/docs/src}" "${SCALE:=1}" "${STEP:=16}"
 export RT
 source=$ISDB_RS/crates/isdb-frontend/src
 work=target/oracle
+# isdb-rs's own delay is 24. These it has only where it is built with another number, which LOOP_DELAY says to the build.
+shorter="1 2 3 4 5 6 7 8 9 10 11 12 13 14 15 16 17 18 19 20 21 22 23"
+unset LOOP_DELAY
 
 absent() {
     echo "oracle: $1"
@@ -25,6 +29,10 @@ sums=$(pwd)/oracle/sources.sha256
 echo "oracle: building isdb-rs, and once more with every overflow a panic .."
 for profile in release checked; do
     (cd oracle && cargo build --offline --quiet --profile $profile)
+done
+echo "oracle: building isdb-rs with each other loop delay .."
+for delay in $shorter; do
+    (cd oracle && LOOP_DELAY=$delay cargo build --offline --quiet --profile delay --target-dir "target/delay-$delay")
 done
 echo "oracle: proving and linking the replay programs, the symbol program and the archive .."
 sh tools/prove.sh "$work/check.out" check replay_leaves replay_calls replay_floats symbols
@@ -45,14 +53,22 @@ differences() { # LINE
     echo "$1" | sed 's/.*compared, \([0-9]*\) differ.*/\1/'
 }
 
-# What the driver writes goes through a replay program. Where one of the two fails, fewer answers were compared than should be, so nothing counts.
-replayed() { # NAME PROGRAM WORDS-FOR-THE-DRIVER
+# What a command writes goes through a replay program. Where one of the two fails, fewer answers were compared than should be, so nothing counts.
+replayed() { # NAME PROGRAM COMMAND-AND-WORDS
     name=$1 program=$2
     shift 2
     rm -f "$work/failed"
-    line=$({ $checked "$@" || : >"$work/failed"; } | "target/bin/$program") || : >"$work/failed"
-    [ ! -e "$work/failed" ] || { echo "oracle: $name: 'oracle $*' or $program failed"; exit 1; }
+    line=$({ "$@" || : >"$work/failed"; } | "target/bin/$program") || : >"$work/failed"
+    [ ! -e "$work/failed" ] || { echo "oracle: $name: '$*' or $program failed"; exit 1; }
     count "$name" "${line%% *}" "$(differences "$line")"
+}
+
+# Runs by isdb-rs at every delay, each with its own seed. A driver fails where its isdb-rs and its reading of docs/RULES.md differ.
+runs_at_each_delay() { # KIND COUNT
+    for delay in $shorter; do
+        "oracle/target/delay-$delay/delay/oracle" path "$1" "$delay" "$2" || return 1
+    done
+    $checked path "$1" 24 "$2"
 }
 
 # A program that compares by itself says so in one line: how many were compared, how many differed, and behind a semicolon of what kinds they were.
@@ -66,35 +82,43 @@ told() { # NAME PROGRAM-AND-WORDS
 
 # The leaves: the whole cosine wheel and random calls of the arithmetic.
 for seed in 1 2 3; do
-    replayed "leaves, seed $seed" replay_leaves leaves $seed $((1000000 * SCALE))
+    replayed "leaves, seed $seed" replay_leaves $checked leaves $seed $((1000000 * SCALE))
 done
 
 # Judging and the offset: sheets that were designed, at the ends of every range, and with faults next to every boundary.
 for kind in designed extreme refused mixed; do
-    replayed "judging and offsets, $kind sheets" replay_calls calls $kind 1 $((6000 * SCALE))
+    replayed "judging and offsets, $kind sheets" replay_calls $checked calls $kind 1 $((6000 * SCALE))
 done
 
 # Offsets alone: accepted sheets, each asked for ties and their neighbours, its ends, and rests next to a half.
-replayed "offsets, ties and ends among them" replay_calls offsets 1 $((4000 * SCALE))
+replayed "offsets, ties and ends among them" replay_calls $checked offsets 1 $((4000 * SCALE))
 
 # The path: runs from a fresh start in blocks of all sizes, 1.3 million symbols in all. The driver also holds each answer of isdb-rs against its own reading.
 for kind in designed extreme mixed; do
-    replayed "starting, blocks and readings, $kind sheets" replay_calls path $kind 1 $((700 * SCALE))
+    replayed "starting, blocks and readings, $kind sheets" replay_calls $checked path $kind 1 $((700 * SCALE))
 done
 
-# States that no run reaches, good ones and broken ones, 100,000 in all, with a short block or two and a reading for each.
+# The same at every delay from 1 to 24, 1,440 runs in all: isdb-rs with that number for its constant, and each time held against the reading too.
+for kind in designed extreme mixed; do
+    replayed "starting, blocks and readings at each delay, $kind sheets" replay_calls runs_at_each_delay $kind $((20 * SCALE))
+done
+
+# Every number that the delay's field can hold, accepted or refused, by itself and behind a refusal that comes before it.
+replayed "calls under every number for a delay" replay_calls $checked delays 1
+
+# States that no run reaches, of any delay, good ones and broken ones, 100,000 in all, with a short block or two and a reading for each.
 for kind in extreme mixed; do
-    replayed "blocks and readings of any state, $kind sheets" replay_calls states $kind 1 $((50000 * SCALE))
+    replayed "blocks and readings of any state, $kind sheets" replay_calls $checked states $kind 1 $((50000 * SCALE))
 done
 
 # Floats: the samples of one in 16 of all 2^32 f32, and of all near a tie, a whole number or an end of what an f32 can be; STEP=1 takes every f32.
-replayed "float samples, one f32 in $STEP and all that stand out" replay_floats samples "$STEP"
+replayed "float samples, one f32 in $STEP and all that stand out" replay_floats $checked samples "$STEP"
 
 # Designs at every corner, strange ones and ordinary ones, wherever isdb-rs answers with registers or a refusal of RULES 6.3; and designs that
 # are judged with banks and gains.
-replayed "registers of designs" replay_floats floats designs 1 $((52000 * SCALE))
-replayed "sheets of designs, judged" replay_floats floats sheets 1 $((4000 * SCALE))
-replayed "sheets of designs, judged, few taps" replay_floats floats small 1 $((10000 * SCALE))
+replayed "registers of designs" replay_floats $checked floats designs 1 $((52000 * SCALE))
+replayed "sheets of designs, judged" replay_floats $checked floats sheets 1 $((4000 * SCALE))
+replayed "sheets of designs, judged, few taps" replay_floats $checked floats small 1 $((10000 * SCALE))
 
 # The symbol program: planned inputs with every wrong line and number in every part, and random ones, most of them spoiled. The driver runs it and reads
 # what it prints.

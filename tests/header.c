@@ -10,7 +10,7 @@
 
 #define TAPS 4
 #define BANK (HUNTELM_ROWS * TAPS)
-#define FULL sheet, 17, h, BANK, g, BANK, h, BANK
+#define FULL sheet, 18, h, BANK, g, BANK, h, BANK
 
 static int answers, wrong;
 
@@ -43,7 +43,7 @@ static int64_t written(void) {
 }
 
 static void fill(void) {
-    static const int64_t fields[HUNTELM_SHEET_PLACES] = {TAPS, 0, 33554432, 32883343, 34225520, 8, 0, 0, 0, 0, 335544, 262144, 16384, 4, 8, 6, 12};
+    static const int64_t fields[HUNTELM_SHEET_PLACES] = {TAPS, 0, 33554432, 32883343, 34225520, 8, 0, 0, 0, 0, 335544, 262144, 16384, 4, 8, 6, 12, 24};
     size_t row;
     memcpy(sheet, fields, sizeof sheet);
     memset(h, 0, sizeof h);
@@ -82,13 +82,18 @@ static void judging(void) {
     expect_sheet("ki outside its type", HUNTELM_SHEET_KI, -32769, HUNTELM_REFUSED_PLACE_TYPE);
     expect_sheet("nco_step outside its type", HUNTELM_SHEET_NCO_STEP, 2147483648, HUNTELM_REFUSED_PLACE_TYPE);
     expect_sheet("agc_target outside its type", HUNTELM_SHEET_AGC_TARGET, -1, HUNTELM_REFUSED_PLACE_TYPE);
+    expect_sheet("the shortest delay", HUNTELM_SHEET_DELAY, 1, HUNTELM_ACCEPTED);
+    expect_sheet("the longest delay", HUNTELM_SHEET_DELAY, 24, HUNTELM_ACCEPTED);
+    expect_sheet("a delay above its type", HUNTELM_SHEET_DELAY, 256, HUNTELM_REFUSED_PLACE_TYPE);
+    expect_sheet("a delay below its type", HUNTELM_SHEET_DELAY, -1, HUNTELM_REFUSED_PLACE_TYPE);
     h[9] = 131072;
     expect("a coefficient", huntelm_judge(FULL), HUNTELM_REFUSED_COEFFICIENT);
     h[9] = 131071;
     expect("a row's sum", huntelm_judge(FULL), HUNTELM_REFUSED_COEFFICIENT_SUM);
     fill();
-    expect("16 places", huntelm_judge(sheet, 16, h, BANK, g, BANK, h, BANK), HUNTELM_REFUSED_PLACE_COUNT);
-    expect("a short bank", huntelm_judge(sheet, 17, h, BANK, g, BANK - 1, h, BANK), HUNTELM_REFUSED_BANK_LENGTH);
+    expect("17 places", huntelm_judge(sheet, 17, h, BANK, g, BANK, h, BANK), HUNTELM_REFUSED_PLACE_COUNT);
+    expect("19 places", huntelm_judge(out, 19, h, BANK, g, BANK, h, BANK), HUNTELM_REFUSED_PLACE_COUNT);
+    expect("a short bank", huntelm_judge(sheet, 18, h, BANK, g, BANK - 1, h, BANK), HUNTELM_REFUSED_BANK_LENGTH);
 }
 
 /* Of ten taps the first and the last are not the detector's. */
@@ -97,10 +102,10 @@ static void detector(void) {
     fill();
     sheet[HUNTELM_SHEET_TAPS] = 10;
     wide[0] = 1;
-    expect("a coefficient outside the detector", huntelm_judge(sheet, 17, wide, 640, wide, 640, wide, 640), HUNTELM_REFUSED_DETECTOR_TAPS);
+    expect("a coefficient outside the detector", huntelm_judge(sheet, 18, wide, 640, wide, 640, wide, 640), HUNTELM_REFUSED_DETECTOR_TAPS);
     wide[0] = 0;
     wide[1] = 1;
-    expect("a coefficient of the detector", huntelm_judge(sheet, 17, wide, 640, wide, 640, wide, 640), HUNTELM_ACCEPTED);
+    expect("a coefficient of the detector", huntelm_judge(sheet, 18, wide, 640, wide, 640, wide, 640), HUNTELM_ACCEPTED);
 }
 
 static void path(void) {
@@ -117,7 +122,7 @@ static void path(void) {
     memcpy(kept, state, sizeof kept);
     expect("an odd number of values", huntelm_block(FULL, state, HUNTELM_STATE_PLACES, values, 5, out, OUT), -HUNTELM_REFUSED_ODD_INPUT);
     expect("59 places for three samples", huntelm_block(FULL, state, HUNTELM_STATE_PLACES, values, 6, out, 59), -HUNTELM_REFUSED_SHORT_OUTPUT);
-    expect("a sheet of 16 places", huntelm_block(sheet, 16, h, BANK, g, BANK, h, BANK, state, HUNTELM_STATE_PLACES, values, 6, out, OUT),
+    expect("a sheet of 17 places", huntelm_block(sheet, 17, h, BANK, g, BANK, h, BANK, state, HUNTELM_STATE_PLACES, values, 6, out, OUT),
            -HUNTELM_REFUSED_PLACE_COUNT);
     state[HUNTELM_STATE_T] = -1;
     expect("a time below 0", huntelm_block(FULL, state, HUNTELM_STATE_PLACES, values, 6, out, OUT), -HUNTELM_REFUSED_STATE);
@@ -146,6 +151,80 @@ static void path(void) {
     expect("three places", written(), HUNTELM_READ_PLACES);
 }
 
+/* Every call on a state and an output of these lengths, with a period that no loop sets and values that are no whole samples. */
+static void expect_all(const char *what, size_t state_len, size_t out_len, int64_t want) {
+    static const int16_t values[3] = {1000, -1000, 0};
+    memcpy(kept, state, sizeof kept);
+    expect(what, huntelm_judge(FULL), want);
+    expect(what, huntelm_start(FULL, state, state_len), want);
+    expect(what, huntelm_block(FULL, state, state_len, values, 3, out, out_len), -want);
+    expect(what, huntelm_read(FULL, state, state_len, out, out_len), want);
+    expect(what, huntelm_offset(FULL, 0, out, out_len), want);
+    expect("the state stays as it was", memcmp(state, kept, sizeof kept), 0);
+    expect("and so does the output", written(), 0);
+}
+
+/* A refused delay comes behind 8, and before everything that is not of the sheet. */
+static void refused_delays(void) {
+    static const int64_t delays[3] = {0, 25, 255};
+    size_t n;
+    for (n = 0; n < 3; n++) {
+        expect_sheet("a delay that is none", HUNTELM_SHEET_DELAY, delays[n], HUNTELM_REFUSED_DELAY);
+        expect("starting", huntelm_start(FULL, state, HUNTELM_STATE_PLACES), HUNTELM_ACCEPTED);
+        sheet[HUNTELM_SHEET_DELAY] = delays[n];
+        expect_all("a refused delay on a good state", HUNTELM_STATE_PLACES, OUT, HUNTELM_REFUSED_DELAY);
+        expect_all("a refused delay with too few places", HUNTELM_STATE_PLACES - 1, 0, HUNTELM_REFUSED_DELAY);
+        state[HUNTELM_STATE_T] = -1;
+        expect_all("a refused delay on a state that is refused", HUNTELM_STATE_PLACES, OUT, HUNTELM_REFUSED_DELAY);
+        sheet[HUNTELM_SHEET_AGC_SHIFT] = 64;
+        expect_all("a refused delay with a refused agc_shift", HUNTELM_STATE_PLACES, OUT, HUNTELM_REFUSED_AGC_SHIFT);
+    }
+}
+
+/* At a delay of 1 the second symbol has the gain that the first one's error gives: 2^18 and 15896 / 16 more in the accumulator. */
+static void shortest_delay(void) {
+    static const int16_t values[6] = {1000, -1000, 0, 0, -1000, 1000};
+    static const int64_t second[20] = {2, 0, -1000, 1000, 0, 0, -1000, 1000, 1027, 33554432, -1003, 1003, 0, 0, -1003, 1003, -16, 16, 0, 15893};
+    fill();
+    sheet[HUNTELM_SHEET_DELAY] = 1;
+    expect("starting", huntelm_start(FULL, state, HUNTELM_STATE_PLACES), HUNTELM_ACCEPTED);
+    expect("a block", huntelm_block(FULL, state, HUNTELM_STATE_PLACES, values, 6, out, OUT), 2);
+    expect("the gain of the first symbol", out[HUNTELM_SYMBOL_GAIN], 1024);
+    expect("the second symbol", memcmp(out + HUNTELM_SYMBOL_PLACES, second, sizeof second), 0);
+    expect("the gain accumulator", state[HUNTELM_STATE_GAIN_ACC], 263137);
+    expect("one pair waits", state[HUNTELM_STATE_WAITING], 1);
+    expect("behind the one that was taken", state[HUNTELM_STATE_OLDEST], 1);
+    expect("which stays where it was", state[HUNTELM_STATE_PENDING + 1], 15896);
+    expect("the error that waits", state[HUNTELM_STATE_PENDING + 3], 15893);
+    state[HUNTELM_STATE_OLDEST] = 23;
+    expect("a sample between symbols", huntelm_block(FULL, state, HUNTELM_STATE_PLACES, values + 2, 2, out, OUT), 0);
+    expect("a symbol", huntelm_block(FULL, state, HUNTELM_STATE_PLACES, values, 2, out, OUT), 1);
+    expect("behind the last place comes the first", state[HUNTELM_STATE_OLDEST], 0);
+    expect("where the new error is", state[HUNTELM_STATE_PENDING + 1], out[HUNTELM_SYMBOL_ERR]);
+    state[HUNTELM_STATE_OLDEST] = 24;
+    expect("a position behind the ring", huntelm_read(FULL, state, HUNTELM_STATE_PLACES, out, OUT), HUNTELM_REFUSED_STATE);
+}
+
+/* As many errors wait as there are symbols, and no more than the delay. So delays of 23 and 24 take each other's states up to 23 symbols, and none behind. */
+static void another_delay(void) {
+    static const int16_t values[2] = {1000, -1000};
+    int64_t delay, samples, symbols;
+    for (delay = 23; delay <= 24; delay++) {
+        fill();
+        sheet[HUNTELM_SHEET_DELAY] = delay;
+        expect("starting", huntelm_start(FULL, state, HUNTELM_STATE_PLACES), HUNTELM_ACCEPTED);
+        for (samples = 1; samples <= 52; samples++) {
+            symbols = (samples + 1) / 2;
+            expect("a sample", huntelm_block(FULL, state, HUNTELM_STATE_PLACES, values, 2, out, OUT), samples % 2);
+            expect("errors that wait", state[HUNTELM_STATE_WAITING], symbols < delay ? symbols : delay);
+            sheet[HUNTELM_SHEET_DELAY] = 47 - delay;
+            expect("under the other delay", huntelm_read(FULL, state, HUNTELM_STATE_PLACES, out, OUT),
+                   symbols <= 23 ? HUNTELM_ACCEPTED : HUNTELM_REFUSED_STATE);
+            sheet[HUNTELM_SHEET_DELAY] = delay;
+        }
+    }
+}
+
 static void offset(void) {
     fill();
     expect("a period that no loop sets", huntelm_offset(FULL, 34225521, out, OUT), HUNTELM_REFUSED_PERIOD);
@@ -162,7 +241,7 @@ static void offset(void) {
 static void nothing_lent(void) {
     fill();
     expect("judging nothing", huntelm_judge(NULL, 0, NULL, 0, NULL, 0, NULL, 0), HUNTELM_REFUSED_PLACE_COUNT);
-    expect("judging no banks", huntelm_judge(sheet, 17, NULL, 0, NULL, 0, NULL, 0), HUNTELM_REFUSED_BANK_LENGTH);
+    expect("judging no banks", huntelm_judge(sheet, 18, NULL, 0, NULL, 0, NULL, 0), HUNTELM_REFUSED_BANK_LENGTH);
     expect("starting no state", huntelm_start(FULL, NULL, 0), HUNTELM_REFUSED_STATE);
     expect("a block on no state", huntelm_block(FULL, NULL, 0, NULL, 0, NULL, 0), -HUNTELM_REFUSED_STATE);
     expect("reading no state", huntelm_read(FULL, NULL, 0, NULL, 0), HUNTELM_REFUSED_STATE);
@@ -200,7 +279,7 @@ static void designs(void) {
     fill();
     memcpy(fresh, sheet, sizeof fresh);
 #define DESIGN rates, 5, fields, 8, h, BANK, g, BANK, h, BANK, out
-    expect("16 places for a sheet", huntelm_design(DESIGN, 16), HUNTELM_REFUSED_SHORT_OUTPUT);
+    expect("17 places for a sheet", huntelm_design(DESIGN, 17), HUNTELM_REFUSED_SHORT_OUTPUT);
     rates[HUNTELM_RATE_TRIM] = 0.75;
     expect("trim", huntelm_design(DESIGN, OUT), HUNTELM_REFUSED_TRIM);
     fields[HUNTELM_FIELD_BITS] = 9;
@@ -220,7 +299,11 @@ static void designs(void) {
     fields[HUNTELM_FIELD_KP] = 0;
     expect("a design", huntelm_design(DESIGN, OUT), HUNTELM_ACCEPTED);
     expect("its sheet", memcmp(out, fresh, sizeof fresh), 0);
-    expect("17 places", out[HUNTELM_SHEET_PLACES], MARK);
+    expect("its delay", out[HUNTELM_SHEET_DELAY], 24);
+    expect("18 places", out[18], MARK);
+    mark();
+    expect("18 places for a sheet", huntelm_design(DESIGN, 18), HUNTELM_ACCEPTED);
+    expect("all are written", written(), 18);
 #undef DESIGN
 }
 
@@ -228,6 +311,9 @@ int main(void) {
     judging();
     detector();
     path();
+    refused_delays();
+    shortest_delay();
+    another_delay();
     offset();
     nothing_lent();
     samples();

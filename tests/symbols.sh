@@ -11,7 +11,7 @@ wrong=0
 
 # ---- the parts of an input
 
-sheet=4,0,33554432,32883343,34225520,8,0,0,0,0,335544,262144,16384,4,8,6,12
+sheet=4,0,33554432,32883343,34225520,8,0,0,0,0,335544,262144,16384,4,8,6,12,24
 one='0,0,1000,-1000,0,0,1000,-1000,1024,33554432,1000,-1000,0,0,1000,-1000,16,-16,0,15896'
 two='2,0,-1000,1000,0,0,-1000,1000,1024,33554432,-1000,1000,0,0,-1000,1000,-16,16,0,15896'
 
@@ -98,8 +98,8 @@ for line in 1 2 65 66 129 130 193; do
 done
 refused 18 1 "$sheet,"
 refused 18 1 "$sheet,0"
-refused 18 1 "${sheet%,12}"
-refused 18 1 "4,0,33554432,32883343,34225520,8,0,0,0,0,335544,262144,16384,4,8,6,012"
+refused 18 1 "${sheet%,24}"
+refused 18 1 "4,0,33554432,32883343,34225520,8,0,0,0,0,335544,262144,16384,4,8,6,12,024"
 for text in '' 1 1, ,1 1,2,3 01,2 1,-0 -0,1 +1,2 '1 ,2' '1,2 ' 1.5,2 x,y - -,- , "1,2$(printf '\r')" é,1; do
     with 194 "$text" >"$dir/in"
     expect "pair '$text' at 194" refused,18,194
@@ -129,14 +129,14 @@ expect 'byte order mark' refused,18,1
 
 number=0
 for ends in '4294967296 -1' '2147483648 -2147483649' '4294967296 -1' '4294967296 -1' '4294967296 -1' '256 -1' '32768 -32769' '256 -1' '32768 -32769' '256 -1' \
-    '2147483648 -2147483649' '4294967296 -1' '4294967296 -1' '256 -1' '256 -1' '256 -1' '256 -1'; do
+    '2147483648 -2147483649' '4294967296 -1' '4294967296 -1' '256 -1' '256 -1' '256 -1' '256 -1' '256 -1'; do
     number=$((number + 1))
     for value in $ends 18446744073709551616 184467440737095516160000000000000000000004 -99999999999999999999999; do
         refused 19 1 "$(put $number "$value")"
     done
     refused 18 1 "$(echo "$sheet" | awk -F, -v OFS=, -v n=$number '{ $1 = 4294967296; $n = "x"; print }')"
 done
-refused 19 1 "3,0,33554432,32883343,34225520,8,0,0,0,0,335544,262144,16384,4,8,6,256"
+refused 19 1 "3,0,33554432,32883343,34225520,8,0,0,0,0,335544,262144,16384,4,8,6,12,256"
 for line in 2 65 66 129 130 193; do
     refused 19 $line 2147483648,0,0,0
     refused 19 $line 0,0,0,-2147483649
@@ -158,7 +158,7 @@ expect '18 before 19 in a pair' refused,18,194
 # ---- 1 at line 1, and judging, which comes after line 193 and before line 194 is read
 
 for taps in 0 1 2 3 5 63 65 66 4294967295; do
-    refused 1 1 "$taps,0,33554432,32883343,34225520,8,0,0,0,0,335544,262144,16384,4,8,6,12"
+    refused 1 1 "$taps,0,33554432,32883343,34225520,8,0,0,0,0,335544,262144,16384,4,8,6,12,24"
 done
 for line in 2 66 130; do
     with $line 131072,0,0,0 >"$dir/in"
@@ -189,7 +189,7 @@ for field in '15 1 9' '16 16' '17 7 16' '12 16777216' '11 -1 4194304' '6 31' '8 
         judged 7 "$(put "$place" "$value")"
     done
 done
-for field in '15 2 8' '16 0 15' '17 8 15' '12 0 16777215' '11 0 4194303' '6 0 30' '8 0 40' '10 0 40' '14 0 63'; do
+for field in '15 2 8' '16 0 15' '17 8 15' '12 0 16777215' '11 0 4194303' '6 0 30' '8 0 40' '10 0 40' '14 0 63' '18 1 24'; do
     set -- $field
     place=$1
     shift
@@ -200,8 +200,32 @@ for field in '15 2 8' '16 0 15' '17 8 15' '12 0 16777215' '11 0 4194303' '6 0 30
 done
 judged 8 "$(put 14 64)"
 judged 8 "$(put 14 255)"
-with 1 4,0,33554432,32883343,34225520,8,0,0,0,0,335544,262144,16384,64,8,6,12 | awk 'NR == 194 { print "x"; next } { print }' >"$dir/in"
+# 29 is the last that is judged: it comes behind 8.
+for delay in 0 25 255; do
+    judged 29 "$(put 18 $delay)"
+    judged 8 "4,0,33554432,32883343,34225520,8,0,0,0,0,335544,262144,16384,64,8,6,12,$delay"
+done
+with 1 4,0,33554432,32883343,34225520,8,0,0,0,0,335544,262144,16384,64,8,6,12,24 | awk 'NR == 194 { print "x"; next } { print }' >"$dir/in"
 expect 'judging before line 194' refused,8,0
+with 1 "$(put 18 25)" | awk 'NR == 194 { print "x"; next } { print }' >"$dir/in"
+expect 'judging the delay before line 194' refused,29,0
+
+# ---- the delay: the errors of the first symbol change the gain, which stands at 1024 until they act
+
+# Of the whole case at a delay of 1 it is the second symbol that they change; at 2 it would be the third.
+with 1 "$(put 18 1)" >"$dir/in"
+expect 'the whole case at a delay of 1' "$one
+2,0,-1000,1000,0,0,-1000,1000,1027,33554432,-1003,1003,0,0,-1003,1003,-16,16,0,15893
+end,3,2,16777216"
+with 1 "$(put 18 2)" >"$dir/in"
+expect 'the whole case at a delay of 2' "$whole"
+delay=1
+while [ $delay -le 24 ]; do
+    { put 18 $delay; tail -n +2 "$dir/head"; repeat 60 1000,-1000; } | "$program" | awk -F, '$9 != 1024 { print NR - 1; exit }' >"$dir/got"
+    echo $delay >"$dir/want"
+    same "a gain that changes after $delay symbols" want
+    delay=$((delay + 1))
+done
 
 # ---- 20, and a last line without a line feed: the whole input, cut at every byte
 
@@ -249,7 +273,7 @@ for line in 1 2 193 194; do
     expect "1,025 bytes at line $line" "refused,18,$line"
 done
 # A line of 1,024 bytes is read: right in form, it is refused for its last number. With one digit more it is too long.
-for part in '1 32 1,1,1,1,1,1,1,1,1,1,1,1,1,1,1,1,' '2 6 1,1,1,' '193 6 1,1,1,' '194 2 1,'; do
+for part in '1 34 1,1,1,1,1,1,1,1,1,1,1,1,1,1,1,1,1,' '2 6 1,1,1,' '193 6 1,1,1,' '194 2 1,'; do
     set -- $part
     { head -n $(($1 - 1)) "$dir/whole"; printf %s "$3"; long $((1024 - $2)) 9; echo; } >"$dir/in"
     expect "1,024 bytes that are right in form at line $1" "refused,19,$1"

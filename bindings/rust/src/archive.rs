@@ -9,7 +9,7 @@
 #![allow(unsafe_code)]
 
 /// Places of a sheet.
-pub const SHEET: usize = 17;
+pub const SHEET: usize = 18;
 
 /// Places of a state.
 pub const STATE: usize = 186;
@@ -112,7 +112,7 @@ unsafe extern "C" {
 /// A sheet's places and its banks, as the calls are lent them.
 #[derive(Debug, Clone, Copy)]
 pub struct Sheet<'a> {
-    /// The 17 fields, in the order of [`Params`](crate::Params).
+    /// The 18 fields, in the order of [`Params`](crate::Params).
     pub places: &'a [i64],
     /// Bank h, row by row.
     pub h: &'a [i32],

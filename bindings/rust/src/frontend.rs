@@ -32,7 +32,7 @@ pub struct Symbol {
     pub zk: [i16; 2],
     /// The output, [`Params::bits`] wide.
     pub q: [i8; 2],
-    /// Its timing error, which acts 24 symbols later.
+    /// Its timing error, which acts [`Params::delay`] symbols later.
     pub e: i32,
     /// Its gain error, likewise.
     pub err: i32,
@@ -105,7 +105,7 @@ impl Frontend {
     ///
     /// # Errors
     ///
-    /// 1 to 8, as [`Params::validate`] has them.
+    /// 1 to 8, then 29, as [`Params::validate`] has them.
     pub fn new(params: Params) -> Result<Self, Refusal> {
         let sheet = params.places();
         let mut state = [0; STATE];
@@ -219,6 +219,7 @@ mod tests {
         let h = [16384, 0, 0, 0].repeat(64);
         let fields = [
             4, 0, 33554432, 32883343, 34225520, 8, 0, 0, 0, 0, 335544, 262144, 16384, 4, 8, 6, 12,
+            24,
         ];
         Params::from_places(&fields, h.clone(), vec![0; 256], h).unwrap()
     }
@@ -292,14 +293,15 @@ mod tests {
         let refused = |places: &[i64]| {
             let here = Params::from_places(places, p.h.clone(), p.g.clone(), p.k.clone()).err();
             let there = Refusal::check(p.sheet(places).judge()).err();
-            assert_eq!(here, there.filter(|r| r.number() >= 18), "{places:?}");
+            let of_places = |r: &Refusal| matches!(r, Refusal::PlaceCount | Refusal::PlaceType);
+            assert_eq!(here, there.filter(of_places), "{places:?}");
             here
         };
         assert_eq!(refused(&good), None);
-        for length in [0, 1, 16] {
+        for length in [0, 1, 17] {
             assert_eq!(refused(&good[..length]), Some(Refusal::PlaceCount));
         }
-        assert_eq!(refused(&[4; 18]), Some(Refusal::PlaceCount));
+        assert_eq!(refused(&[4; 19]), Some(Refusal::PlaceCount));
         let ends = [
             0,
             u8::MAX.into(),

@@ -5,8 +5,8 @@
 //! Where the archive stands elsewhere, the environment variable `HUNTELM_ARCHIVE` names its folder, by its whole path, when the crate is built. It links on
 //! x86-64 Linux.
 //!
-//! The names are those of isdb-rs's front end. What differs: a bank is one vector, row by row, and the taps are a field; whatever can be
-//! refused answers a [`Refusal`]; [`Params::design`] is given banks and gains.
+//! The names are those of isdb-rs's front end. What differs: a bank is one vector, row by row, and the taps are a field; the loop's delay, which is 24
+//! symbols there, is one too; whatever can be refused answers a [`Refusal`]; [`Params::design`] is given banks and gains.
 //!
 //! ```
 //! use huntelm::{Frontend, Params};
@@ -30,6 +30,7 @@
 //!     bits: 8,
 //!     q_shift: 6,
 //!     block_log2: 12,
+//!     delay: 24,
 //!     k: h.clone(),
 //!     g: vec![0; 64 * 4],
 //!     h,

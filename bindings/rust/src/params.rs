@@ -3,7 +3,7 @@
 use crate::Refusal;
 use crate::archive::{self, SHEET, Sheet};
 
-/// The parameters of a run: a sheet of 17 fields, and its three banks.
+/// The parameters of a run: a sheet of 18 fields, and its three banks.
 ///
 /// A period is in samples, 2^24 to the sample. A bank is 64 rows of `taps` coefficients, row by row; row p serves the symbols that fall into the p-th
 /// sixty-fourth of a sample, and its first coefficient multiplies the newest sample.
@@ -43,6 +43,9 @@ pub struct Params {
     pub q_shift: u8,
     /// log2 of the symbols that are stored as one block, 8 to 15. No symbol depends on it.
     pub block_log2: u8,
+    /// The loop's delay in symbols, 1 to 24: the errors of symbol n correct period and gain right before symbol n + delay is made. So the first symbols,
+    /// delay of them, have the period and the gain of the start.
+    pub delay: u8,
     /// Bank of the matched filter, for the timing detector.
     pub h: Vec<i32>,
     /// Bank of its derivative, for the timing detector.
@@ -92,7 +95,7 @@ impl Params {
     ///
     /// # Errors
     ///
-    /// 1 to 8, the first that applies.
+    /// 1 to 8, then 29: the first that applies.
     pub fn validate(&self) -> Result<(), Refusal> {
         Refusal::check(self.sheet(&self.places()).judge())
     }
@@ -114,14 +117,14 @@ impl Params {
     ///
     /// # Errors
     ///
-    /// 1 to 8 as [`validate`](Self::validate) has them, then 13 for a period outside period_min..period_max.
+    /// 1 to 8, then 29, as [`validate`](Self::validate) has them, then 13 for a period outside period_min..period_max.
     pub fn offset(&self, period: u32) -> Result<i64, Refusal> {
         let mut answer = [0];
         Refusal::check(self.sheet(&self.places()).offset(period, &mut answer))?;
         Ok(answer[0])
     }
 
-    /// The parameters of a design, with banks and gains that the caller has chosen. They are judged too.
+    /// The parameters of a design, with banks and gains that the caller has chosen and a delay of 24. They are judged too.
     ///
     /// ```
     /// use huntelm::{Design, Gains, Params};
@@ -140,13 +143,13 @@ impl Params {
     /// let h = [16384, 0, 0, 0].repeat(64);
     /// let g = vec![0; 256];
     /// let params = Params::design(&design, &gains, h.clone(), g, h)?;
-    /// assert_eq!(params.period_nominal, 33554432);
+    /// assert_eq!((params.period_nominal, params.delay), (33554432, 24));
     /// # Ok::<(), huntelm::Refusal>(())
     /// ```
     ///
     /// # Errors
     ///
-    /// 14 to 17 for the design, then 1 to 8 for the sheet that it makes.
+    /// 14 to 17 for the design, then 1 to 8 for the sheet that it makes; 29 comes behind them and is never met, since the delay is 24.
     pub fn design(
         design: &Design,
         gains: &Gains,
@@ -183,7 +186,7 @@ impl Params {
         Self::from_places(&places, h, g, k)
     }
 
-    /// The parameters of 17 numbers, in the order of the fields above, and the banks. They are not judged.
+    /// The parameters of 18 numbers, in the order of the fields above, and the banks. They are not judged.
     ///
     /// # Errors
     ///
@@ -213,13 +216,14 @@ impl Params {
             bits: field(places[14])?,
             q_shift: field(places[15])?,
             block_log2: field(places[16])?,
+            delay: field(places[17])?,
             h,
             g,
             k,
         })
     }
 
-    /// The 17 fields as numbers, in their order.
+    /// The 18 fields as numbers, in their order.
     pub fn places(&self) -> [i64; SHEET] {
         [
             self.taps.into(),
@@ -239,6 +243,7 @@ impl Params {
             self.bits.into(),
             self.q_shift.into(),
             self.block_log2.into(),
+            self.delay.into(),
         ]
     }
 

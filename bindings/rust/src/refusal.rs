@@ -42,14 +42,16 @@ pub enum Refusal {
     DesignBits = 16,
     /// 17: the design's trim is outside −0.5..0.5.
     Trim = 17,
-    /// 18: not the number of places that a sheet has, 17.
+    /// 18: not the number of places that a sheet has, 18.
     PlaceCount = 18,
     /// 19: a number is outside the type of its place.
     PlaceType = 19,
+    /// 29: delay is outside 1..24. It is judged behind 8.
+    Delay = 29,
 }
 
-/// All refusals, by number from 1 on.
-const ALL: [Refusal; 19] = [
+/// All refusals.
+const ALL: [Refusal; 20] = [
     Refusal::Taps,
     Refusal::BankLength,
     Refusal::Coefficient,
@@ -69,6 +71,7 @@ const ALL: [Refusal; 19] = [
     Refusal::Trim,
     Refusal::PlaceCount,
     Refusal::PlaceType,
+    Refusal::Delay,
 ];
 
 impl Refusal {
@@ -81,17 +84,17 @@ impl Refusal {
         self as u32
     }
 
-    /// The refusal that has this number.
+    /// The refusal that has this number. From 20 to 28 there is none: 20 is the symbol program's alone, and the others are not used.
     ///
     /// ```
     /// use huntelm::Refusal;
     ///
     /// assert_eq!(Refusal::from_number(12), Some(Refusal::TooManySamples));
+    /// assert_eq!(Refusal::from_number(29), Some(Refusal::Delay));
     /// assert_eq!(Refusal::from_number(0), None);
     /// ```
     pub fn from_number(number: u32) -> Option<Self> {
-        let place = usize::try_from(number).ok()?.checked_sub(1)?;
-        ALL.get(place).copied()
+        ALL.into_iter().find(|refusal| refusal.number() == number)
     }
 
     /// What a call answered: 0, or a refusal's number.
@@ -146,8 +149,9 @@ impl fmt::Display for Refusal {
             Self::DesignTaps => "the design's taps are odd, below 4 or above 64",
             Self::DesignBits => "the design's bits are outside 2..8",
             Self::Trim => "the design's trim is outside -0.5..0.5",
-            Self::PlaceCount => "the number of places is not the 17 of a sheet",
+            Self::PlaceCount => "the number of places is not the 18 of a sheet",
             Self::PlaceType => "a number is outside the type of its place",
+            Self::Delay => "the loop's delay is outside 1..24",
         })?;
         write!(f, " (refusal {})", self.number())
     }

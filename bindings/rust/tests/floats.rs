@@ -88,6 +88,7 @@ fn two_samples_a_symbol() {
         (p.agc_init, p.agc_shift, p.ted_shift, p.nco_step),
         (262144, 4, 8, 0)
     );
+    assert_eq!(p.delay, 24);
 }
 
 #[test]

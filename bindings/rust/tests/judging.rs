@@ -78,6 +78,14 @@ fn fields() {
     refused(Refusal::Range, |p| p.ki_shift = 41);
     refused(Refusal::AgcShift, |p| p.agc_shift = 64);
     accepted(|p| p.agc_shift = 63);
+    for delay in [0, 25, 255] {
+        refused(Refusal::Delay, |p| p.delay = delay);
+        refused(Refusal::AgcShift, |p| (p.agc_shift, p.delay) = (64, delay));
+        refused(Refusal::Range, |p| (p.bits, p.delay) = (1, delay));
+    }
+    for delay in 1..=24 {
+        accepted(|p| p.delay = delay);
+    }
 }
 
 #[test]
@@ -87,7 +95,7 @@ fn places() {
     assert_eq!(again, Ok(p.clone()));
     let of = |places: &[i64]| Params::from_places(places, vec![], vec![], vec![]).err();
     assert_eq!(of(&p.places()[1..]), Some(Refusal::PlaceCount));
-    assert_eq!(of(&[-1; 17]), Some(Refusal::PlaceType));
+    assert_eq!(of(&[-1; 18]), Some(Refusal::PlaceType));
 }
 
 #[test]
@@ -111,7 +119,7 @@ fn offset() {
 #[test]
 fn every_refusal_has_its_number_and_a_text() {
     let mut texts = HashSet::new();
-    for number in 1..=19 {
+    for number in (1..=19).chain([29]) {
         let refusal = Refusal::from_number(number).unwrap();
         assert_eq!(refusal.number(), number);
         let text = refusal.to_string();
@@ -119,7 +127,7 @@ fn every_refusal_has_its_number_and_a_text() {
         assert!(text.len() > 30, "{text}");
         assert!(texts.insert(text));
     }
-    for number in [0, 20, 21, u32::MAX] {
+    for number in [0, 20, 21, 28, 30, u32::MAX] {
         assert_eq!(Refusal::from_number(number), None);
     }
     let error: Box<dyn std::error::Error + Send + Sync> = Refusal::Trim.into();

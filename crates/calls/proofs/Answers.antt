@@ -71,7 +71,7 @@ zeros-bad s e = go (goodState (s .params) (atRest 0 0)) refl
     go true t = absurd (omega (arith, going (s .params) (atRest 0 0) t .loop .low, accepted-sheet s e .periods .above))
     go false t = t
 
--- so what refuses them is 9, after 1 to 8
+-- so what refuses them is 9, after 1 to 8 and 29
 zeros-refused : (s : Sheet) → firstOf (stateFaults s (atRest 0 0)) .number ≡ firstNumber (judged s .number) 9
 unfolding judged
 zeros-refused s = go (faults s) refl (faults-numbered s)

@@ -111,6 +111,7 @@ module _ (rates : List Float) (fields : List ℤ) (e : designNumber rates fields
         bits = field-u8 1 (field-kind 1 (lit< tt));
         «q_shift» = field-u8 7 (field-kind 7 (lit< tt));
         «block_log2» = field-u8 2 (field-kind 2 (lit< tt));
+        delay = u8-is 24 (lit< tt);
       }
 
 -- ---- a design that is accepted
@@ -161,13 +162,13 @@ made rates fields h g k places e =
     let d : Design = designAt rates fields in
     let a : Designed Params = sheetOfDesign d (gainsAt fields) h g k in
     let p : Params = sheetMade (registersOf d (spsOf d)) (gainsAt fields) in
-    let room : ℕ = cond (leb 17 (length places)) 0 11 in
+    let room : ℕ = cond (leb 18 (length places)) 0 11 in
     let read = none-of (designNumber rates fields) (firstNumber (refusedBy a) room) e in
     let pass = passed d (gainsAt fields) h g k (none-of (refusedBy a) room (read .1) .0) in
-    let left : take 17 (designAnswer rates fields h g k places .places) ≡ sheetNumbers p =
-    ap (λ (b : Bool). take 17 (cond b (writtenBy a places) places)) (eq-eqb _ 0 e)
-    ∙ ap (λ (x : Designed Params). take 17 (writtenBy x places)) (pass .is)
-    ∙ take-at (sheetNumbers p) (drop 17 places) 17 refl in
+    let left : take 18 (designAnswer rates fields h g k places .places) ≡ sheetNumbers p =
+    ap (λ (b : Bool). take 18 (cond b (writtenBy a places) places)) (eq-eqb _ 0 e)
+    ∙ ap (λ (x : Designed Params). take 18 (writtenBy x places)) (pass .is)
+    ∙ take-at (sheetNumbers p) (drop 18 places) 18 refl in
     subst (Made rates fields h g k) (sym left) (record {
       is = pass .is ∙ ap accepted (sym (sheets-cross .back p));
       judges = judges p h g k (typed rates fields (read .0) (spsOf d)) (pass .faultless);

@@ -22,21 +22,21 @@ use Rattle.places.specs.Sheet.{sheetNumber, paramsAt, sheetNumbers}
 use Rattle.places.specs.Rates.{designNumber, designAt, gainsAt}
 use Rattle.places.specs.States.{stateFits, stateOf, numbersOf}
 
--- The sheet that 17 places and the banks say.
+-- The sheet that 18 places and the banks say.
 abbrev pub sheetAt : List ℤ → List ℤ → List ℤ → List ℤ → Sheet
 sheetAt l h g k = sheetOf (paramsAt l) h g k
 
--- Judging: 18 and 19, then 1 to 8.
+-- Judging: 18 and 19, 1 to 8, then 29.
 unfoldable pub judgeNumber : List ℤ → List ℤ → List ℤ → List ℤ → ℕ
 judgeNumber l h g k = firstNumber (sheetNumber l) (judged (sheetAt l h g k) .number)
 
--- Starting: 18 and 19, 1 to 8, then 9 where there are not 186 places for the state.
+-- Starting: 18 and 19, 1 to 8, 29, then 9 where there are not 186 places for the state.
 unfoldable pub startAnswer : List ℤ → List ℤ → List ℤ → List ℤ → List ℤ → Answer
 startAnswer l h g k state =
     let a : Start = startOf (sheetAt l h g k) in
     answered (firstNumber (sheetNumber l) (firstNumber (a .refused .number) (cond (eqb (length state) 186) 0 9))) (numbersOf (a .state)) state
 
--- 9 of places that are those of no state, after 1 to 8.
+-- 9 of places that are those of no state, after 1 to 8 and 29.
 unfoldable pub stateNumber : Sheet → List ℤ → ℕ
 stateNumber s state = cond (stateFits state) 0 (firstNumber (judged s .number) 9)
 
@@ -46,7 +46,7 @@ pub record BlockAnswer : Type 0 where
   pub state : List ℤ
   pub output : List ℤ
 
--- A block: 18 and 19, 1 to 8, 9, 10 to 12. It answers how many symbols it wrote, or the refusal's number below zero.
+-- A block: 18 and 19, 1 to 8, 29, 9, 10 to 12. It answers how many symbols it wrote, or the refusal's number below zero.
 unfoldable pub blockAnswer : List ℤ → List ℤ → List ℤ → List ℤ → List ℤ → List ℤ → List ℤ → BlockAnswer
 blockAnswer l h g k state values out =
     let s : Sheet = sheetAt l h g k in
@@ -56,7 +56,7 @@ blockAnswer l h g k state values out =
     (record { result = pos (b .count); state = numbersOf (b .state); output = b .output })
     (record { result = negℤ (pos n); state = state; output = out })
 
--- Reading: 18 and 19, 1 to 8, 9, then 11 where there are fewer than three places for period, gain and symbols.
+-- Reading: 18 and 19, 1 to 8, 29, 9, then 11 where there are fewer than three places for period, gain and symbols.
 unfoldable pub readAnswer : List ℤ → List ℤ → List ℤ → List ℤ → List ℤ → List ℤ → Answer
 readAnswer l h g k state places =
     let s : Sheet = sheetAt l h g k in
@@ -64,7 +64,7 @@ readAnswer l h g k state places =
     answered (firstNumber (sheetNumber l) (firstNumber (stateNumber s state) (firstNumber (a .refused .number) (cond (leb 3 (length places)) 0 11))))
     (pos (a .period) ∷ pos (a .gain) ∷ pos (a .symbols) ∷ drop 3 places) places
 
--- The offset of a period: 18 and 19, 1 to 8, 13, then 11 where there is no place for it.
+-- The offset of a period: 18 and 19, 1 to 8, 29, 13, then 11 where there is no place for it.
 unfoldable pub offsetAnswer : List ℤ → List ℤ → List ℤ → List ℤ → ℕ → List ℤ → Answer
 offsetAnswer l h g k period places =
     let a : Parts = offsetOf (sheetAt l h g k) period in
@@ -75,13 +75,14 @@ abbrev pub refusedBy : Designed Params → ℕ
 refusedBy (accepted p) = 0
 refusedBy (refused r) = r .number
 
--- What it leaves in places: its sheet in the first 17, and all as it was where there is no sheet.
+-- What it leaves in places: its sheet in the first 18, and all as it was where there is no sheet.
 abbrev pub writtenBy : Designed Params → List ℤ → List ℤ
-writtenBy (accepted p) places = sheetNumbers p ++ drop 17 places
+writtenBy (accepted p) places = sheetNumbers p ++ drop 18 places
 writtenBy (refused r) places = places
 
--- A design and its sheet: 18 and 19, 14 to 17, 1 to 8, then 11 where there are fewer than 17 places for the sheet.
+-- A design and its sheet: 18 and 19, 14 to 17, 1 to 8, then 11 where there are fewer than 18 places for the sheet. 29 comes after 8, and a design's delay
+-- never meets it.
 unfoldable pub designAnswer : List Float → List ℤ → List ℤ → List ℤ → List ℤ → List ℤ → Answer
 designAnswer rates fields h g k places =
     let a : Designed Params = sheetOfDesign (designAt rates fields) (gainsAt fields) h g k in
-    answered (firstNumber (designNumber rates fields) (firstNumber (refusedBy a) (cond (leb 17 (length places)) 0 11))) (writtenBy a places) places
+    answered (firstNumber (designNumber rates fields) (firstNumber (refusedBy a) (cond (leb 18 (length places)) 0 11))) (writtenBy a places) places

@@ -15,8 +15,8 @@ pub record Made (rates : List Float) (fields h g k sheet : List ℤ) : Type 0 wh
   pub is : sheetOfDesign (designAt rates fields) (gainsAt fields) h g k ≡ accepted (paramsAt sheet)
   pub judges : judgeNumber sheet h g k ≡ 0
 
--- The first 17 places that a design's call leaves, where it refuses nothing, are the design's sheet.
+-- The first 18 places that a design's call leaves, where it refuses nothing, are the design's sheet.
 abbrev pub DesignsCross : Type 0
 DesignsCross =
     (rates : List Float) (fields h g k places : List ℤ) → designAnswer rates fields h g k places .number ≡ 0
-    → Made rates fields h g k (take 17 (designAnswer rates fields h g k places .places))
+    → Made rates fields h g k (take 18 (designAnswer rates fields h g k places .places))

@@ -1,7 +1,8 @@
 // What the calls of the interface to C answer: judging, starting, the block, reading, the offset and designs, over numbers and lent slices.
 //
 // No call asks anything of its caller: whatever is lent, it answers, with a refusal's number where something is wrong, and then it has touched no place.
-// 18 and 19 refuse a sheet or a design that cannot be read, before 1 to 8 and 14 to 17; places that are those of no state are refused by 9, after 1 to 8.
+// 18 and 19 refuse a sheet or a design that cannot be read, before 14 to 17 and the judge's 1 to 8 and 29; places that are those of no state are refused
+// by 9, after the judge's.
 use design::SheetVerdict;
 use places::ReadDesign;
 use places::ReadSheet;
@@ -137,7 +138,7 @@ pub fn offset(
     }
 }
 
-// Writes the sheet of a design to the first 17 places (RULES 6.4). The design comes as five rates and eight fields.
+// Writes the sheet of a design to the first 18 places (RULES 6.4). The design comes as five rates and eight fields.
 pub fn design(
     rates: &[f64],
     fields: &[i64],

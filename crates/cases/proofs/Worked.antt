@@ -3,7 +3,7 @@ use mathlib.Core.Path.{refl}
 use Rattle.arith.specs.Arith.{roundShift, clampZ, modZ, wrapI32, nearestUp, nearestAway}
 use Rattle.tables.specs.Wheel.{quarter, wheel}
 use Rattle.params.specs.Banks.{rowOf, coefficientFaults, magnitudes, rowFaults, rowsFaults, detectorPlace, zeroOutside, rowsOutside, bankFaults}
-use Rattle.params.specs.Judge.{goodTaps, goodLength, lengthFaults, goodPeriods, fieldFaults, faults, judged}
+use Rattle.params.specs.Judge.{goodTaps, goodLength, lengthFaults, goodPeriods, goodDelay, fieldFaults, faults, judged}
 use Rattle.offset.specs.Offset.{partsOf, offsetOf}
 use Rattle.floats.specs.Whole.{roundAway}
 use Rattle.steps.specs.Steps.{hundredths, periodNominal, atLeastMin, periodMin, periodMax, integratorMax, ncoStep, agcTarget}
@@ -19,8 +19,8 @@ use mathlib.Core.List.{flatten}
 
 pub worked : Worked
 unfolding flatten roundShift clampZ modZ wrapI32 nearestUp nearestAway quarter wheel goodTaps goodLength rowOf coefficientFaults magnitudes rowFaults rowsFaults
-    detectorPlace zeroOutside lengthFaults bankFaults rowsOutside goodPeriods fieldFaults faults judged partsOf offsetOf mixed quantised gainError rows
-    paramsWith plainSheet sheet firstOfK placesFrom round neg mul div lt le eq toUnsigned toSigned roundAway hundredths spsOf periodNominal atLeastMin
+    detectorPlace zeroOutside lengthFaults bankFaults rowsOutside goodPeriods goodDelay fieldFaults faults judged partsOf offsetOf mixed quantised gainError
+    rows paramsWith plainSheet sheet firstOfK placesFrom round neg mul div lt le eq toUnsigned toSigned roundAway hundredths spsOf periodNominal atLeastMin
     periodMin periodMax integratorMax ncoStep agcTarget registersOf goodSps goodTrim designFaults designOf twoSamples registersWith
 worked = record {
   round-down = refl;

@@ -20,6 +20,7 @@ twoSamples = record {
   «block_log2» = 12;
 }
 
+-- Its registers, with these three periods and this end of the integrator. The delay is 24, as in every design.
 unfoldable pub registersWith : ℕ → ℕ → ℕ → ℕ → DesignRegisters
 registersWith nominal least most integrator = record {
   taps = 4;
@@ -34,4 +35,5 @@ registersWith nominal least most integrator = record {
   «agc_shift» = 4;
   bits = 8;
   «block_log2» = 12;
+  delay = 24;
 }

@@ -32,6 +32,7 @@ paramsWith nominal least most = record {
   bits = 8;
   «q_shift» = 6;
   «block_log2» = 12;
+  delay = 24;
 }
 
 -- Each row of h and k passes the newest sample on, and g gives nothing.

@@ -43,6 +43,7 @@ narrow = record {
   bits = 2;
   «q_shift» = 0;
   «block_log2» = 0;
+  delay = 24;
 }
 
 pub record Worked : Type 0 where

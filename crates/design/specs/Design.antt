@@ -71,9 +71,10 @@ paramsOf r gains = record {
   bits = r .bits;
   «q_shift» = gains .«q_shift»;
   «block_log2» = r .«block_log2»;
+  delay = r .delay;
 }
 
--- 1 to 8, of a sheet with its banks.
+-- 1 to 8 and 29, of a sheet with its banks.
 unfoldable pub judgeFaults : Params → List ℤ → List ℤ → List ℤ → List DesignRefusal
 judgeFaults p h g k = map judgeRefusal (faults (sheetOf p h g k))
 

@@ -22,7 +22,7 @@ pub record DesignRefusal : Type 0 where
 abbrev pub floatRefusal : ℕ → List Float → DesignRefusal
 floatRefusal n xs = record { number = n; carries = []; floats = xs }
 
--- One of the judge's, 1 to 8.
+-- One of the judge's, 1 to 8 and 29.
 abbrev pub judgeRefusal : Refusal → DesignRefusal
 judgeRefusal r = record { number = r .number; carries = r .carries; floats = [] }
 

@@ -9,7 +9,7 @@ use Rattle.design.specs.declared.DesignRegisters.{DesignRegisters}
 unfoldable pub spsOf : Design → Float
 spsOf d = div binary64 (d .«sample_rate») (d .«symbol_rate»)
 
--- All registers at so many samples in a symbol.
+-- All registers at so many samples in a symbol. The delay is 24 symbols in every design.
 unfoldable pub registersOf : Design → Float → DesignRegisters
 registersOf d sps = record {
   taps = d .taps;
@@ -24,4 +24,5 @@ registersOf d sps = record {
   «agc_shift» = 4;
   bits = d .bits;
   «block_log2» = d .«block_log2»;
+  delay = 24;
 }

@@ -26,7 +26,7 @@ pub struct Design {
     pub block_log2: u8,
 }
 
-// The fields of a sheet that a design determines.
+// The fields of a sheet that a design determines. The delay is 24 symbols in every design.
 pub struct DesignRegisters {
     pub taps: u32,
     pub nco_step: i32,
@@ -40,6 +40,7 @@ pub struct DesignRegisters {
     pub agc_shift: u8,
     pub bits: u8,
     pub block_log2: u8,
+    pub delay: u8,
 }
 
 // The fields of a sheet that a design leaves open: the loop's two gains with their shifts, and the shift of the output.
@@ -193,6 +194,7 @@ impl Design {
             agc_shift: 4,
             bits: self.bits,
             block_log2: self.block_log2,
+            delay: 24,
         }
     }
 }
@@ -220,6 +222,7 @@ impl DesignRegisters {
             bits: self.bits,
             q_shift: gains.q_shift,
             block_log2: self.block_log2,
+            delay: self.delay,
         }
     }
 }

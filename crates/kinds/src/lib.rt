@@ -71,8 +71,8 @@ fn both(a: bool, b: bool) -> bool
     false
 }
 
-// Whether there is a place for each kind, with a number of it. A number of another kind does not end the loop: the compiler unrolls it for a sheet's 17
-// places, and would take the code behind 17 ways out for code that hardly ever runs.
+// Whether there is a place for each kind, with a number of it. A number of another kind does not end the loop: the compiler unrolls it for a sheet's 18
+// places, and would take the code behind 18 ways out for code that hardly ever runs.
 pub fn are_kinds(kinds: &[u8], places: &[i64]) -> bool
     ensures { λ r. ⌜ r ≡ areKinds (now (kinds .entry)) (now (places .entry)) ⌝ }
 {

@@ -31,7 +31,7 @@ offsetParts o = record { refused = offsetRefusal (o .verdict); parts = o .parts 
 unfoldable pub partsOf : Params → ℕ → ℤ
 partsOf p period = nearestAway ((pos (p .«period_nominal») -ℤ pos period) *ℤ pos 1000000000) period
 
--- The answer: after 1 to 8, 13 for a period outside the sheet's bounds; 0 parts where it is refused.
+-- The answer: after 1 to 8 and 29, 13 for a period outside the sheet's bounds; 0 parts where it is refused.
 unfoldable pub offsetOf : Sheet → ℕ → Parts
 offsetOf s period =
     let p : Params = s .params in

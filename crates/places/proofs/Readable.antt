@@ -20,7 +20,7 @@ use Rattle.kinds.proofs.Readable.{readable-at}
 
 -- ---- a sheet
 
-pub sheet-at : (l : List ℤ) → sheetNumber l ≡ 0 → (n : ℕ) → n < 17 → KindAt (getD sheetKinds n 0) l n
+pub sheet-at : (l : List ℤ) → sheetNumber l ≡ 0 → (n : ℕ) → n < 18 → KindAt (getD sheetKinds n 0) l n
 sheet-at l e n h = readable-at sheetKinds l e n h
 
 -- ---- a design

@@ -29,23 +29,24 @@ fit p t =
     and-both (t .taps) (and-both (t .«nco_step»)
     (and-both (t .«period_nominal») (and-both (t .«period_min») (and-both (t .«period_max») (and-both (t .«ted_shift»)
     (and-both (t .kp) (and-both (t .«kp_shift») (and-both (t .ki) (and-both (t .«ki_shift») (and-both (t .«integrator_max») (and-both (t .«agc_init»)
-    (and-both (t .«agc_target») (and-both (t .«agc_shift») (and-both (t .bits) (and-both (t .«q_shift») (and-both (t .«block_log2») refl)))))))))))))))) in
+    (and-both (t .«agc_target») (and-both (t .«agc_shift») (and-both (t .bits) (and-both (t .«q_shift») (and-both (t .«block_log2»)
+    (and-both (t .delay) refl))))))))))))))))) in
     rw each refl
 
 -- ---- read and written
 
 module _ (l : List ℤ) (e : sheetNumber l ≡ 0) where
-  long : length l ≡ 17
+  long : length l ≡ 18
   long = readable sheetKinds l e .long
 
-  place : (n : ℕ) → n < 17 → {z : ℤ} {rest : List ℤ} → z ≡ at l n → rest ≡ drop (suc n) l → z ∷ rest ≡ drop n l
+  place : (n : ℕ) → n < 18 → {z : ℤ} {rest : List ℤ} → z ≡ at l n → rest ≡ drop (suc n) l → z ∷ rest ≡ drop n l
   place n h is behind = front l n (omega (arith, long)) is behind
 
-  kind : (n : ℕ) → n < 17 → isKind (getD sheetKinds n 0) (at l n) ≡ true
+  kind : (n : ℕ) → n < 18 → isKind (getD sheetKinds n 0) (at l n) ≡ true
   kind n h = sheet-at l e n h .is
 
-  none : [] ≡ drop 17 l
-  none = sym (drop-of-length-le l {i = 17} (omega (arith, long)))
+  none : [] ≡ drop 18 l
+  none = sym (drop-of-length-le l {i = 18} (omega (arith, long)))
 
   again : sheetNumbers (paramsAt l) ≡ l
   unfolding paramsAt sheetNumbers
@@ -67,7 +68,8 @@ module _ (l : List ℤ) (e : sheetNumber l ≡ 0) where
       (place 14 (lit< tt) (own-u8 (at l 14) (kind 14 (lit< tt)))
       (place 15 (lit< tt) (own-u8 (at l 15) (kind 15 (lit< tt)))
       (place 16 (lit< tt) (own-u8 (at l 16) (kind 16 (lit< tt)))
-      none))))))))))))))))
+      (place 17 (lit< tt) (own-u8 (at l 17) (kind 17 (lit< tt)))
+      none)))))))))))))))))
 
 pub sheets-cross : SheetsCross
 sheets-cross = record { back = back; fit = fit; again = again }

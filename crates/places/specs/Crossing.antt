@@ -33,6 +33,7 @@ pub record TypedSheet (p : Params) : Type 0 where
   pub bits : isKind u8 (pos (p .bits)) ≡ true
   pub «q_shift» : isKind u8 (pos (p .«q_shift»)) ≡ true
   pub «block_log2» : isKind u8 (pos (p .«block_log2»)) ≡ true
+  pub delay : isKind u8 (pos (p .delay)) ≡ true
 
 -- A sheet that is written to places and read again is the same in every field, and its places are those of a sheet; places of a sheet that are read and
 -- written again hold what they held.
@@ -43,7 +44,7 @@ pub record SheetsCross : Type 0 where
 
 -- ---- states
 
--- A state has a line of 64 pairs and 24 pairs of waiting errors, as its arrays have.
+-- A state has a line of 64 pairs and a ring of 24 pairs of errors, as its arrays have.
 pub record Whole (f : Frontend) : Type 0 where
   pub line : length (f .line) ≡ 64
   pub pending : length (f .pending) ≡ 24

@@ -1,4 +1,4 @@
--- A sheet as 17 places, its fields in their order (RULES 1.1).
+-- A sheet as 18 places, its fields in their order (RULES 1.1).
 -- (RULES 8.2)
 use Prim.Native.Nat.{ℕ}
 use mathlib.Core.Bool.{cond}
@@ -15,9 +15,9 @@ use Rattle.kinds.specs.Answer.{Answer, answered}
 -- The types of the fields.
 abbrev pub sheetKinds : List ℕ
 sheetKinds =
-    u32 ∷ i32 ∷ u32 ∷ u32 ∷ u32 ∷ u8 ∷ i16 ∷ u8 ∷ i16 ∷ u8 ∷ i32 ∷ u32 ∷ u32 ∷ u8 ∷ u8 ∷ u8 ∷ u8 ∷ []
+    u32 ∷ i32 ∷ u32 ∷ u32 ∷ u32 ∷ u8 ∷ i16 ∷ u8 ∷ i16 ∷ u8 ∷ i32 ∷ u32 ∷ u32 ∷ u8 ∷ u8 ∷ u8 ∷ u8 ∷ u8 ∷ []
 
--- 18 for another number of places than 17, 19 for one whose number is not of its field's type, and 0 for a sheet that can be read.
+-- The refusal's number: 18 where there are not 18 places, 19 for one whose number is not of its field's type, and 0 for a sheet that can be read.
 abbrev pub sheetNumber : List ℤ → ℕ
 sheetNumber l = placesNumber sheetKinds l
 
@@ -41,6 +41,7 @@ paramsAt l = record {
   bits = natAbs (at l 14);
   «q_shift» = natAbs (at l 15);
   «block_log2» = natAbs (at l 16);
+  delay = natAbs (at l 17);
 }
 
 -- What reading a sheet answers: its fields, or 18 or 19.
@@ -52,8 +53,8 @@ unfoldable pub sheetNumbers : Params → List ℤ
 sheetNumbers p =
     pos (p .taps) ∷ p .«nco_step» ∷ pos (p .«period_nominal») ∷ pos (p .«period_min») ∷ pos (p .«period_max») ∷ pos (p .«ted_shift»)
     ∷ p .kp ∷ pos (p .«kp_shift») ∷ p .ki ∷ pos (p .«ki_shift») ∷ p .«integrator_max» ∷ pos (p .«agc_init») ∷ pos (p .«agc_target»)
-    ∷ pos (p .«agc_shift») ∷ pos (p .bits) ∷ pos (p .«q_shift») ∷ pos (p .«block_log2») ∷ []
+    ∷ pos (p .«agc_shift») ∷ pos (p .bits) ∷ pos (p .«q_shift») ∷ pos (p .«block_log2») ∷ pos (p .delay) ∷ []
 
--- Writing a sheet: to the first 17 places, or 11 where there are fewer.
+-- Writing a sheet: to the first 18 places, or 11 where there are fewer.
 unfoldable pub sheetWritten : Params → List ℤ → Answer
-sheetWritten p l = answered (cond (leb 17 (length l)) 0 11) (sheetNumbers p ++ drop 17 l) l
+sheetWritten p l = answered (cond (leb 18 (length l)) 0 11) (sheetNumbers p ++ drop 18 l) l

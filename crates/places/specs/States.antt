@@ -1,5 +1,5 @@
 -- A state as 186 places: nco, t, v, period, gain accumulator, symbols, the line's position, the queue's position and count, samples; then the line's 64 pairs
--- and the 24 pairs of waiting errors, all as they are stored. (RULES 8.3)
+-- and the 24 pairs of the ring in which errors wait, all as they are stored. (RULES 8.3)
 use Prim.Native.Nat.{ℕ}
 use mathlib.Core.Bool.{Bool, cond, _&&_}
 use mathlib.Core.List.{List, [], _∷_, _++_}
@@ -26,7 +26,7 @@ unfoldable pub flatPairs : {A : Type 0} → (A → ℤ) → (A → ℤ) → List
 flatPairs first second [] = []
 flatPairs first second (x ∷ xs) = first x ∷ second x ∷ flatPairs first second xs
 
--- The line's pairs, and those of the waiting errors, from and to numbers.
+-- The line's pairs, and the ring's, from and to numbers.
 abbrev pub lineOf : List ℤ → List Pair
 lineOf l = inPairs (λ a b. record { i = a; q = b }) l
 

@@ -1,7 +1,7 @@
 // Sheets, states and designs as places: numbers of 64 bits, in which they cross to C and in which the programs read them.
 //
 // Nothing is asked of a caller: places that are those of no sheet, state or design are refused by a number, and then nothing is written.
-// A sheet is 17 places (sheet.rt), a state 186 (states.rt), a design five rates and eight places (rates.rt).
+// A sheet is 18 places (sheet.rt), a state 186 (states.rt), a design five rates and eight places (rates.rt).
 mod numbers;
 mod rates;
 mod sheet;

@@ -1,4 +1,4 @@
-// A sheet as 17 places, its fields in their order (RULES 1.1).
+// A sheet as 18 places, its fields in their order (RULES 1.1).
 use crate::ReadSheet;
 use crate::numbers;
 use params::Params;
@@ -9,7 +9,7 @@ ghost use lib.ListN.{length, drop};
 ghost use Rattle.places.specs.Sheet.{sheetKinds, sheetNumber, paramsAt, readSheet, sheetNumbers, sheetWritten};
 
 // The types of the fields.
-pub fn sheet_kinds() -> [u8; 17]
+pub fn sheet_kinds() -> [u8; 18]
     ensures { λ r. ⌜ r ≡ sheetKinds ⌝ }
 {
     [
@@ -26,6 +26,7 @@ pub fn sheet_kinds() -> [u8; 17]
         kinds::I32,
         kinds::U32,
         kinds::U32,
+        kinds::U8,
         kinds::U8,
         kinds::U8,
         kinds::U8,
@@ -56,10 +57,11 @@ fn params_of(sheet: &[i64]) -> Params
         bits: numbers::u8_at(sheet, 14),
         q_shift: numbers::u8_at(sheet, 15),
         block_log2: numbers::u8_at(sheet, 16),
+        delay: numbers::u8_at(sheet, 17),
     }
 }
 
-// The sheet of these places: 18 for another number of them than 17, 19 for a number that its field's type has not.
+// The sheet of these places, or the refusal's number: 18 where there are not 18 of them, 19 for a number that its field's type has not.
 pub fn read_sheet(sheet: &[i64]) -> ReadSheet
     ensures { λ r. ⌜ r ≡ readSheet (now (sheet .entry)) ⌝ }
 {
@@ -93,12 +95,13 @@ pub fn no_sheet() -> Params
         bits: 0,
         q_shift: 0,
         block_log2: 0,
+        delay: 0,
     }
 }
 
 fn write(p: Params, sheet: &mut [i64])
-    requires { ⌜ 17 ≤ length (now sheet) ⌝ }
-    ensures { λ _. ⌜ now (sheet .exit) ≡ sheetNumbers p ++ drop 17 (now (sheet .entry)) ⌝ }
+    requires { ⌜ 18 ≤ length (now sheet) ⌝ }
+    ensures { λ _. ⌜ now (sheet .exit) ≡ sheetNumbers p ++ drop 18 (now (sheet .entry)) ⌝ }
 {
     sheet[0] = p.taps as i64;
     sheet[1] = p.nco_step as i64;
@@ -117,13 +120,14 @@ fn write(p: Params, sheet: &mut [i64])
     sheet[14] = p.bits as i64;
     sheet[15] = p.q_shift as i64;
     sheet[16] = p.block_log2 as i64;
+    sheet[17] = p.delay as i64;
 }
 
-// Writes the fields to the first 17 places, or answers 11 where there are fewer.
+// Writes the fields to the first 18 places, or answers 11 where there are fewer.
 pub fn write_sheet(p: Params, sheet: &mut [i64]) -> u32
     ensures { λ r. ⌜ record { number = r; places = now (sheet .exit) } ≡ sheetWritten p (now (sheet .entry)) ⌝ }
 {
-    if sheet.len() < 17 {
+    if sheet.len() < 18 {
         return 11;
     }
     write(p, &mut *sheet);

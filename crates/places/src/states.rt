@@ -1,5 +1,5 @@
 // A state as 186 places: nco, t_acc, v, period, gain_acc, symbols, head, oldest, waiting, samples; then the line's 64 pairs i, q, and the 24 pairs
-// e, err of the waiting errors, both as they are stored.
+// e, err of the ring in which errors wait, both as they are stored.
 use crate::numbers;
 use registers::Pending;
 use registers::Registers;

@@ -6,7 +6,7 @@ use lib.Dec.{eqb}
 use lib.ListN.{length, getD}
 use lib.IntN.{ℤ, pos, negsuc}
 use Rattle.params.specs.declared.ParamError.{ParamError}
-use Rattle.params.specs.declared.ParamError.the-variants.{Taps, BankLength, Coefficient, CoefficientSum, DetectorTaps, PeriodBounds, Range, AgcShift}
+use Rattle.params.specs.declared.ParamError.the-variants.{Taps, BankLength, Coefficient, CoefficientSum, DetectorTaps, PeriodBounds, Range, AgcShift, Delay}
 use Rattle.replay.specs.declared.answer.Answer.{Answer}
 use Rattle.rows.specs.Rows.{signedBits}
 
@@ -30,6 +30,7 @@ ofError (DetectorTaps bank) = carriesOne 5 (pos bank)
 ofError PeriodBounds = carriesNone 6
 ofError (Range field) = carriesOne 7 (pos field)
 ofError AgcShift = carriesNone 8
+ofError Delay = carriesNone 29
 
 abbrev pub eqZ : ℤ → ℤ → Bool
 eqZ (pos a) (pos b) = eqb a b

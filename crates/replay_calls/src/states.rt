@@ -1,5 +1,5 @@
 // A state as 186 numbers: nco, t_acc, v, period, gain_acc, symbols, head, oldest, waiting, samples; the line's 64 pairs i, q; the 24 pairs e, err of the
-// waiting errors. Both as they are stored.
+// ring in which errors wait. Both as they are stored.
 use registers::Pending;
 use registers::Registers;
 use state::Frontend;

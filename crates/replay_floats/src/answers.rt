@@ -37,7 +37,7 @@ fn is_refusal(e: DesignError, numbers: &[i64]) -> bool {
 
 // Whether these are 0 and the registers, in the order of a sheet's fields.
 fn are_registers(r: DesignRegisters, numbers: &[i64]) -> bool {
-    numbers.len() == 13
+    numbers.len() == 14
         && rows::at(numbers, 0) == 0
         && rows::at(numbers, 1) == r.taps as i64
         && rows::at(numbers, 2) == rows::wide(r.nco_step)
@@ -51,11 +51,12 @@ fn are_registers(r: DesignRegisters, numbers: &[i64]) -> bool {
         && rows::at(numbers, 10) == r.agc_shift as i64
         && rows::at(numbers, 11) == r.bits as i64
         && rows::at(numbers, 12) == r.block_log2 as i64
+        && rows::at(numbers, 13) == r.delay as i64
 }
 
-// Whether these are 0 and a sheet's 17 fields.
+// Whether these are 0 and a sheet's 18 fields.
 fn are_fields(p: Params, numbers: &[i64]) -> bool {
-    numbers.len() == 18
+    numbers.len() == 19
         && rows::at(numbers, 0) == 0
         && rows::at(numbers, 1) == p.taps as i64
         && rows::at(numbers, 2) == rows::wide(p.nco_step)
@@ -74,6 +75,7 @@ fn are_fields(p: Params, numbers: &[i64]) -> bool {
         && rows::at(numbers, 15) == p.bits as i64
         && rows::at(numbers, 16) == p.q_shift as i64
         && rows::at(numbers, 17) == p.block_log2 as i64
+        && rows::at(numbers, 18) == p.delay as i64
 }
 
 // Whether a number is what the component with this bit pattern becomes.

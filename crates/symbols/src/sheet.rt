@@ -1,4 +1,4 @@
-// The first 193 lines: the sheet's 17 fields, and 64 rows of each bank.
+// The first 193 lines: the sheet's 18 fields, and 64 rows of each bank.
 use crate::input::Input;
 use crate::stop::Stop;
 use kinds::I32;
@@ -18,7 +18,7 @@ pub(crate) struct Head {
 impl Head {
     // Line 1. A row's length rests on the taps, so these are judged at once.
     pub(crate) fn of_line(bytes: &mut [u8]) -> Head {
-        let mut values = [0i64; 17];
+        let mut values = [0i64; 18];
         let types = places::sheet_kinds();
         let taken = Input::new().take(1, &types, &mut values, bytes);
         let rest = taken.rest;

@@ -4,7 +4,7 @@ use crate::lent::{Lent, answered};
 use crate::rules;
 use crate::tally::Tally;
 use archive_calls::Sheet;
-use huntelm::archive::SYMBOL;
+use huntelm::archive::{SHEET, SYMBOL};
 use oracle::generate;
 use oracle::random::Random;
 use oracle::reading::Reading;
@@ -116,7 +116,10 @@ impl Call {
             match r.below(10) {
                 0 => self.spoil_length(r),
                 1 => self.spoil_field(r),
-                2 => self.sheet = Sheet::from(&generate::spoiled(r, fields.clone())),
+                2 => {
+                    let spoiled = generate::spoiled_by_delay_too(r, fields.clone());
+                    self.sheet = Sheet::from(&spoiled);
+                }
                 3 => self.spoil_bank(r),
                 4 => self.state.resize(r.pick(&[0, 1, 185, 187, 372]), 0),
                 5 => self.spoil_place(r),
@@ -140,7 +143,7 @@ impl Call {
 
     /// A sheet with places too few or too many.
     fn spoil_length(&mut self, r: &mut Random) {
-        let long = r.pick(&[0, 1, 16, 18, 34]);
+        let long = r.pick(&[0, 1, SHEET - 1, SHEET + 1, 2 * SHEET]);
         self.sheet.fields.resize(long, 0);
     }
 

@@ -4,7 +4,7 @@ use crate::lent::{Lent, answered};
 use crate::rules;
 use crate::tally::Tally;
 use archive_calls::{Design, Sheet};
-use huntelm::archive;
+use huntelm::archive::{self, SHEET};
 use oracle::design::Answer;
 use oracle::floats;
 use oracle::generate;
@@ -81,13 +81,13 @@ pub fn designs(tally: &mut Tally, r: &mut Random) {
     } else {
         None
     };
-    let places = r.pick(&[17, 17, 17, 18, 40, 16, 0]);
+    let places = r.pick(&[SHEET, SHEET, SHEET, SHEET + 1, 40, SHEET - 1, 0]);
     let mut written = Lent::any(places, r);
     let number = design.lent().sheet(written.places());
     tally.refusal(number);
     let right = match (unread, right) {
         (Some(number), _) => Err(number),
-        (None, Ok(_)) if places < 17 => Err(11),
+        (None, Ok(_)) if places < SHEET => Err(11),
         (None, right) => right,
     };
     tally.answer("a design", answered(number, &written, right));
@@ -103,7 +103,7 @@ fn gains(sheet: &Fields) -> [i64; 5] {
     ]
 }
 
-/// The 17 fields of a sheet that is accepted.
+/// The fields of a sheet that is accepted.
 fn sheet_of(sheet: &Fields) -> Result<Vec<i64>, u32> {
     rules::accepted(&Sheet::from(sheet)).map(|sheet| sheet.fields().to_vec())
 }

@@ -1,5 +1,5 @@
 //! What a call of the archive is to answer, whatever it is lent: the reading of docs/RULES.md, behind the archive's own rules for places
-//! (crates/calls). A sheet that cannot be read is 18 or 19, then come 1 to 8; places that are those of no state are 9.
+//! (crates/calls). A sheet that cannot be read is 18 or 19, then come 1 to 8 and 29; places that are those of no state are 9.
 
 use crate::calls::Call;
 use archive_calls::Sheet;

@@ -1,5 +1,5 @@
-//! A run from a fresh start, through the archive and by isdb-rs, in blocks of all sizes; and what comes of its end state when it is
-//! changed.
+//! A run from a fresh start, through the archive and by isdb-rs, or by the reading of docs/RULES.md under a delay that isdb-rs was not built with, in blocks of
+//! all sizes; and what comes of its end state when it is changed.
 
 use crate::calls::Call;
 use crate::lent::Lent;
@@ -7,13 +7,11 @@ use crate::rules;
 use crate::tally::Tally;
 use archive_calls::Sheet;
 use huntelm::archive::{STATE, SYMBOL};
-use isdb_frontend::fixed::{Frontend, Symbol};
+use oracle::front::Front;
 use oracle::generate::Samples;
-use oracle::program;
 use oracle::random::Random;
 use oracle::reading::Reading;
 use oracle::sheet::Sheet as Fields;
-use oracle::state::State;
 use oracle::states;
 
 /// Changed states after a run.
@@ -22,8 +20,9 @@ const CHANGED: u64 = 8;
 pub struct Run<'a> {
     fields: &'a Fields,
     sheet: Sheet,
-    front: Frontend,
-    symbols: Vec<Symbol>,
+    front: Front<'a>,
+    /// What `front` made of the last block.
+    symbols: Vec<i64>,
     state: Lent<i64>,
     tally: &'a mut Tally,
     r: &'a mut Random,
@@ -32,11 +31,11 @@ pub struct Run<'a> {
 impl<'a> Run<'a> {
     pub fn start(fields: &'a Fields, tally: &'a mut Tally, r: &'a mut Random) -> Self {
         let sheet = Sheet::from(fields);
-        let front = Frontend::new(fields.params()).expect("an accepted sheet");
+        let front = Front::start(fields);
         let mut state = Lent::any(STATE, r);
         tally.answer("judging", sheet.lent().judge() == 0);
         let number = sheet.lent().start(state.places());
-        let right = number == 0 && state.begins_with(&State::of(&front).numbers());
+        let right = number == 0 && state.begins_with(&front.state().numbers());
         tally.answer("starting", right);
         Self {
             fields,
@@ -84,46 +83,39 @@ impl<'a> Run<'a> {
             .sheet
             .lent()
             .block(self.state.places(), values, output.places());
-        self.symbols.clear();
         self.front.process(block, &mut self.symbols);
-        let made = self.symbols.len();
-        let right: Vec<i64> = self.symbols.iter().flat_map(program::numbers).collect();
-        debug_assert_eq!(right.len(), SYMBOL * made);
+        let made = self.symbols.len() / SYMBOL;
         self.tally.samples += block.len() as u64;
         self.tally.symbols += made as u64;
         self.tally.answer(
             "a block of a run",
-            count == made as i64 && output.begins_with(&right) && self.state.is_kept_around(),
+            count == made as i64
+                && output.begins_with(&self.symbols)
+                && self.state.is_kept_around(),
         );
     }
 
     /// The state, what is read of it, and the offset of its period. isdb-rs shows its state as a long text only, so this is done after some blocks and not
     /// after each.
     fn look(&mut self) {
-        let rust = State::of(&self.front);
-        let state = self.state.numbers() == rust.numbers();
+        let right = self.front.state();
+        let state = self.state.numbers() == right.numbers();
         self.tally.answer("the state of a run", state);
         let mut answer = Lent::any(4, self.r);
         let number = self
             .sheet
             .lent()
             .read(self.state.numbers(), answer.places());
-        let front = &self.front;
-        let read = [
-            front.period().into(),
-            front.gain().into(),
-            front.symbols() as i64,
-        ];
-        let right = number == 0 && answer.begins_with(&read);
-        self.tally.answer("reading a run", right);
-        let call = Call::good(&self.sheet, &rust, 0, self.r);
+        let read = number == 0 && answer.begins_with(&self.front.read());
+        self.tally.answer("reading a run", read);
+        let call = Call::good(&self.sheet, &right, 0, self.r);
         let reading = Reading::of(self.fields);
         call.offset(Ok(&reading), self.tally, self.r);
     }
 
     /// Calls in which something is wrong. They change nothing, so the run goes on as if they had not been.
     fn wrong_calls(&mut self) {
-        let state = State::of(&self.front);
+        let state = self.front.state();
         for _ in 0..4 {
             let pairs = self.r.below(6);
             let mut call = Call::good(&self.sheet, &state, pairs, self.r);
@@ -136,7 +128,7 @@ impl<'a> Run<'a> {
     /// docs/RULES.md answers.
     pub fn change(&mut self) {
         let reading = Reading::of(self.fields);
-        let end = State::of(&self.front);
+        let end = self.front.state();
         for _ in 0..CHANGED {
             let mut state = states::changed(self.r, self.fields, &end);
             self.tally.changed += 1;

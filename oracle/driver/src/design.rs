@@ -1,6 +1,7 @@
 //! The registers of a design, and float samples. A float is written by its bits in hexadecimal, so that no digit of
 //! it is lost on the way.
 
+use crate::sheet::DESIGN_DELAY;
 use crate::usage;
 use isdb_frontend::params::{Design, ParamError, Params};
 use num_complex::Complex32;
@@ -76,7 +77,7 @@ pub fn registers(input: impl BufRead, output: &mut impl Write) -> io::Result<()>
         let d = read(&line).ok_or_else(|| usage(&format!("not a design: {line}")))?;
         let answer = match Answer::of(&d) {
             Answer::Registers(p) => format!(
-                "ok,{},{},{},{},{},{},{},{},{},{},{},{}",
+                "ok,{},{},{},{},{},{},{},{},{},{},{},{},{DESIGN_DELAY}",
                 p.period_nominal,
                 p.period_min,
                 p.period_max,

@@ -5,7 +5,7 @@
 use crate::design::Answer;
 use crate::generate::{self, any_design, beside, plausible};
 use crate::random::Random;
-use crate::sheet::{Sheet, joined};
+use crate::sheet::{DESIGN_DELAY, Sheet, joined};
 use crate::usage;
 use isdb_frontend::params::{Design, Params};
 use num_complex::Complex32;
@@ -157,7 +157,7 @@ fn refused(refusal: i64, carried: Option<f64>) -> String {
 }
 
 /// 0, and the fields of a sheet that a design determines.
-fn registers(p: &Params) -> [i64; 13] {
+fn registers(p: &Params) -> [i64; 14] {
     [
         0,
         p.taps() as i64,
@@ -172,6 +172,7 @@ fn registers(p: &Params) -> [i64; 13] {
         p.agc_shift.into(),
         p.bits.into(),
         p.block_log2.into(),
+        DESIGN_DELAY.into(),
     ]
 }
 

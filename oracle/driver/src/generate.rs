@@ -1,8 +1,9 @@
 //! Seeded sheets, recordings and designs: designed ones, accepted ones at the ends of every range, and refused ones
 //! around every boundary.
 
+use crate::front;
 use crate::random::Random;
-use crate::sheet::Sheet;
+use crate::sheet::{DELAYS, DESIGN_DELAY, Sheet};
 use crate::{design, usage};
 use isdb_frontend::params::{Design, PHASES, Params, TED_TAPS, ted_tap};
 use isdb_frontend::tables::rrc;
@@ -20,17 +21,18 @@ pub fn sheets(kind: &str, seed: u64, count: u64, output: &mut impl Write) -> io:
     Ok(())
 }
 
+/// A sheet of any delay. Only a small one has always that of designs: what is stored of small sheets stays as it is.
 pub fn sheet(kind: &str, r: &mut Random) -> io::Result<Sheet> {
-    match one_kind(kind, r) {
-        "designed" => Ok(designed(r).0),
-        "extreme" => Ok(extreme(r)),
-        "small" => {
-            let taps = r.pick(&[4, 6, 8, 10]);
-            Ok(extreme_of(r, taps))
-        }
-        "refused" => Ok(refused(r)),
-        _ => Err(usage(&format!("{kind} is no kind of sheet"))),
-    }
+    let mut sheet = match one_kind(kind, r) {
+        "small" => return Ok(small(r)),
+        "short" => small(r),
+        "designed" => designed(r).0,
+        "extreme" => extreme(r),
+        "refused" => return Ok(refused(r)),
+        _ => return Err(usage(&format!("{kind} is no kind of sheet"))),
+    };
+    sheet.delay = any_delay(r);
+    Ok(sheet)
 }
 
 /// The kind itself, or one of those that are mixed.
@@ -42,10 +44,17 @@ fn one_kind<'a>(kind: &'a str, r: &mut Random) -> &'a str {
 }
 
 /// A sheet with samples to run it on: a signal of its design where it has one, noise of the full range else, and for a
-/// quarter of the designed ones too.
+/// quarter of the designed ones too. Half of the designed ones have the delay of isdb-rs.
 pub fn sheet_with_samples(kind: &str, r: &mut Random) -> io::Result<(Sheet, Samples)> {
     match one_kind(kind, r) {
-        "designed" if !r.one_in(4) => Ok(designed_with_signal(r)),
+        "designed" if !r.one_in(4) => {
+            let (mut sheet, samples) = designed_with_signal(r);
+            sheet.delay = match r.below(2) {
+                0 => front::DELAY,
+                _ => any_delay(r),
+            };
+            Ok((sheet, samples))
+        }
         kind => Ok((sheet(kind, r)?, Samples::noise())),
     }
 }
@@ -206,6 +215,12 @@ fn extreme(r: &mut Random) -> Sheet {
     extreme_of(r, taps)
 }
 
+/// One of few taps.
+fn small(r: &mut Random) -> Sheet {
+    let taps = r.pick(&[4, 6, 8, 10]);
+    extreme_of(r, taps)
+}
+
 fn extreme_of(r: &mut Random, taps: u32) -> Sheet {
     let (low, high) = ((1i64 << 24) + 1, (1i64 << 26) - 1);
     let mut period = [ends(r, low, high), ends(r, low, high), ends(r, low, high)];
@@ -228,10 +243,16 @@ fn extreme_of(r: &mut Random, taps: u32) -> Sheet {
         bits: ends(r, 2, 8) as u8,
         q_shift: ends(r, 0, 15) as u8,
         block_log2: ends(r, 8, 15) as u8,
+        delay: DESIGN_DELAY,
         banks: std::array::from_fn(|bank| extreme_bank(r, taps as usize, bank < 2)),
     };
     debug_assert!(sheet.judge().is_empty());
     sheet
+}
+
+/// A delay that is accepted.
+pub fn any_delay(r: &mut Random) -> u8 {
+    ends(r, (*DELAYS.start()).into(), (*DELAYS.end()).into()) as u8
 }
 
 /// An end of the range, a neighbour of it, or any number within.
@@ -285,16 +306,33 @@ fn extreme_row(r: &mut Random, taps: usize, detector: bool) -> Vec<i32> {
 
 /// A sheet with one fault or several.
 fn refused(r: &mut Random) -> Sheet {
-    let sheet = if r.one_in(8) {
+    let mut sheet = if r.one_in(8) {
         designed(r).0
     } else {
         extreme(r)
     };
-    spoiled(r, sheet)
+    sheet.delay = any_delay(r);
+    spoiled_by_delay_too(r, sheet)
 }
 
-/// The sheet with one fault or several, each next to the boundary that it breaks. A few are accepted after all: the
-/// boundary itself is among the values.
+/// The sheet with faults of every kind: the delay's alone, together with an agc_shift next to its bound so that their order
+/// shows, behind other faults, and other faults alone.
+pub fn spoiled_by_delay_too(r: &mut Random, mut sheet: Sheet) -> Sheet {
+    let alone = match r.below(8) {
+        0 | 1 => true,
+        2 => false,
+        _ => return spoiled(r, sheet),
+    };
+    let past = DELAYS.end() + 1;
+    sheet.delay = r.pick(&[0, 0, 1, past - 1, past, past, past + 1, 64, 254, 255]);
+    if r.one_in(3) {
+        sheet.agc_shift = r.pick(&[63, 64, 255]);
+    }
+    if alone { sheet } else { spoiled(r, sheet) }
+}
+
+/// The sheet with one fault or several, the delay left as it is, each next to the boundary that it breaks. A few are
+/// accepted after all: the boundary itself is among the values.
 pub fn spoiled(r: &mut Random, mut sheet: Sheet) -> Sheet {
     if sheet.judge().first().is_some_and(|number| *number <= 2) {
         return sheet;

@@ -7,11 +7,11 @@
 
 use crate::generate;
 use crate::random::Random;
-use crate::sheet::{FIELDS, Sheet, joined};
+use crate::sheet::{DELAYS, FIELDS, Sheet, joined};
 use std::io;
 
 /// The numbers of the refusals that a text can meet.
-pub const REFUSALS: [u64; 10] = [1, 3, 4, 5, 6, 7, 8, 18, 19, 20];
+pub const REFUSALS: [u64; 11] = [1, 3, 4, 5, 6, 7, 8, 18, 19, 20, 29];
 
 const I32: (i64, i64) = (i32::MIN as i64, i32::MAX as i64);
 const I16: (i64, i64) = (i16::MIN as i64, i16::MAX as i64);
@@ -121,17 +121,31 @@ pub fn planned() -> io::Result<Vec<Vec<u8>>> {
             text.with(194, b"x").bytes(),
         ]);
     }
+    for delay in DELAYS {
+        all.push(lively(delay)?.bytes());
+    }
     Ok(all)
 }
 
 /// Four taps, the first of which passes samples on.
 fn whole_case() -> Sheet {
     let mut sheet = Sheet::of(&[
-        4, 0, 33554432, 32883343, 34225520, 8, 0, 0, 0, 0, 335544, 262144, 16384, 4, 8, 6, 12,
+        4, 0, 33554432, 32883343, 34225520, 8, 0, 0, 0, 0, 335544, 262144, 16384, 4, 8, 6, 12, 24,
     ]);
     let passing = [16384, 0, 0, 0].repeat(64);
     sheet.banks = [passing.clone(), vec![0; 256], passing];
     sheet
+}
+
+/// A run in which every symbol's errors move period and gain, so that it shows when they are applied; of 100 symbols, which
+/// fill the places of errors four times.
+fn lively(delay: u8) -> io::Result<Text> {
+    let mut sheet = whole_case();
+    sheet.banks[1] = sheet.banks[0].clone();
+    (sheet.kp, sheet.kp_shift, sheet.ki, sheet.ki_shift) = (300, 4, 200, 2);
+    sheet.delay = delay;
+    let pairs: Vec<[i16; 2]> = (0..200).map(|n| [n * 13 % 1500, 700 - n * 7]).collect();
+    Text::of(&sheet, &pairs)
 }
 
 /// Each wrong line in each place.
@@ -153,6 +167,7 @@ fn wrong_lines(whole: &Text) -> Vec<Vec<u8>> {
             text(b",", b""),
             text(b"", b","),
             text(b"", b",0"),
+            text(b"", b",24"),
             text(b" ", b""),
             text(b"", b" "),
             text(b"", b"\r"),
@@ -298,6 +313,14 @@ fn judged() -> Vec<Sheet> {
         with(&|s| s.ki_shift = v);
         with(&|s| s.agc_shift = v);
     }
+    for v in [0, 1, 2, 23, 24, 25, 26, 63, 64, 128, 254, 255] {
+        with(&|s| s.delay = v);
+        // what is judged before the delay, at its bound and past it
+        with(&|s| (s.agc_shift, s.delay) = (63, v));
+        with(&|s| (s.agc_shift, s.delay) = (64, v));
+        with(&|s| (s.ki_shift, s.delay) = (41, v));
+        with(&|s| (s.period_min, s.delay) = (one, v));
+    }
     for v in [one - 1, one, u32::MAX] {
         with(&|s| s.agc_init = v);
     }
@@ -311,7 +334,7 @@ fn judged() -> Vec<Sheet> {
 
 pub fn random(r: &mut Random) -> io::Result<Vec<u8>> {
     let kind = r.pick(&[
-        "small", "small", "small", "extreme", "extreme", "designed", "refused",
+        "small", "small", "short", "extreme", "extreme", "designed", "refused",
     ]);
     let (sheet, mut samples) = generate::sheet_with_samples(kind, r)?;
     let pairs: Vec<[i16; 2]> = (0..many(r)).map(|_| samples.next(r)).collect();
@@ -345,7 +368,7 @@ fn spoil_line(r: &mut Random, text: &mut Text) {
     let all = fields(&text.0[at]);
     let field = r.below(all.len() as u64) as usize;
     let ends = if at == 0 {
-        FIELDS[field.min(16)]
+        FIELDS[field.min(FIELDS.len() - 1)]
     } else {
         r.pick(&[I32, I16])
     };

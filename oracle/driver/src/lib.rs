@@ -3,8 +3,10 @@
 
 pub mod against;
 pub mod calls;
+pub mod delays;
 pub mod design;
 pub mod floats;
+pub mod front;
 pub mod generate;
 pub mod inputs;
 pub mod leaves;

@@ -1,7 +1,7 @@
 //! Asks the Rust front end of isdb-rs, text in and text out. README.md beside this folder has the formats.
 
 use oracle::{
-    against, calls, design, floats, generate, leaves, offsets, path, program, sheet, states,
+    against, calls, delays, design, floats, generate, leaves, offsets, path, program, sheet, states,
 };
 use oracle::{number, usage};
 use std::io::{self, BufRead, BufWriter, Write};
@@ -21,6 +21,7 @@ oracle: asks the Rust front end of isdb-rs
   oracle sheets KIND SEED COUNT       sheets for `validate`
   oracle calls KIND SEED COUNT        sheets with what judging them and offsets of periods answer, for replay_calls
   oracle offsets SEED COUNT           accepted sheets, each with 64 offsets, many of them ties, for replay_calls
+  oracle delays SEED                  a small sheet with each delay that its field can hold, for replay_calls
   oracle path KIND SEED COUNT         sheets, each run from its start in blocks, for replay_calls
   oracle states KIND SEED COUNT       states that no run reaches, with what a block and a reading make of them,
                                       for replay_calls
@@ -34,7 +35,8 @@ oracle: asks the Rust front end of isdb-rs
                                       what it prints against `symbols`; FILE keeps the first input that differs
   oracle designs SEED COUNT           designs for `design`
 
-KIND is designed, extreme, small, refused or mixed for sheets, and designed, extreme or isdb-s for a recording.
+KIND is designed, extreme, small, short, refused or mixed for sheets, and designed, extreme or isdb-s for a recording.
+Sheets of `path` have the delay that isdb-rs was built with, small ones a delay of 24, and others any.
 ";
 
 fn main() -> ExitCode {
@@ -65,6 +67,7 @@ fn run(words: &[&str], input: impl BufRead, output: &mut impl Write) -> io::Resu
         }
         ["calls", kind, seed, count] => calls::write(kind, number(seed)?, number(count)?, output),
         ["offsets", seed, count] => offsets::write(number(seed)?, number(count)?, output),
+        ["delays", seed] => delays::write(number(seed)?, output),
         ["path", kind, seed, count] => path::write(kind, number(seed)?, number(count)?, output),
         ["states", kind, seed, count] => states::write(kind, number(seed)?, number(count)?, output),
         ["samples", step] => floats::samples(number(step)?, output),

@@ -2,14 +2,13 @@
 //! before it is written, and a difference ends the driver: no row is written that only one of the two stands for. Calls
 //! that are refused have no counterpart in isdb-rs and are the reading's alone.
 
+use crate::front::{DELAY, Rust};
 use crate::generate::{self, Samples};
-use crate::program;
 use crate::random::Random;
 use crate::reading::{Reading, SYMBOL};
 use crate::rows::Rows;
-use crate::sheet::Sheet;
+use crate::sheet::{DELAYS, Sheet};
 use crate::state::State;
-use isdb_frontend::fixed::Frontend;
 use std::io::{self, Write};
 
 /// Pairs of a run; of a small sheet's there are a tenth at most, so that they can be stored.
@@ -19,7 +18,11 @@ pub fn write(kind: &str, seed: u64, count: u64, output: &mut impl Write) -> io::
     let mut r = Random::new(seed);
     let mut rows = Rows::new(output);
     for _ in 0..count {
-        let (sheet, mut samples) = generate::sheet_with_samples(kind, &mut r)?;
+        let (mut sheet, mut samples) = generate::sheet_with_samples(kind, &mut r)?;
+        // isdb-rs has the one delay that it was built with; a delay that is refused stays
+        if DELAYS.contains(&sheet.delay) {
+            sheet.delay = DELAY;
+        }
         let mut run = Run::start(&sheet, &mut rows)?;
         let pairs = match run.front {
             None => 1 + r.below(30),
@@ -34,7 +37,9 @@ pub fn write(kind: &str, seed: u64, count: u64, output: &mut impl Write) -> io::
 struct Run<'a, 'b, W> {
     rows: &'a mut Rows<'b, W>,
     /// isdb-rs's front end; there is none under a sheet that is refused.
-    front: Option<Frontend>,
+    front: Option<Rust>,
+    /// What it made of the last block.
+    symbols: Vec<i64>,
     reading: Reading<'a>,
     /// The state that the reading handed back last.
     state: State,
@@ -43,16 +48,13 @@ struct Run<'a, 'b, W> {
 impl<'a, 'b, W: Write> Run<'a, 'b, W> {
     fn start(sheet: &'a Sheet, rows: &'a mut Rows<'b, W>) -> io::Result<Self> {
         let reading = Reading::of(sheet);
-        let front = reading
-            .refusal()
-            .is_empty()
-            .then(|| Frontend::new(sheet.params()).expect("a sheet that was judged"));
         rows.sheet(sheet)?;
         rows.started(reading.refusal())?;
         let mut run = Self {
             state: reading.start(),
             rows,
-            front,
+            front: Rust::start(sheet),
+            symbols: Vec::new(),
             reading,
         };
         run.tell_state()?;
@@ -99,7 +101,8 @@ impl<'a, 'b, W: Write> Run<'a, 'b, W> {
         if let Some(front) = &mut self.front
             && block.refusal.is_empty()
         {
-            same("symbols", &processed(front, values), &block.output)?;
+            front.process(values.as_chunks().0, &mut self.symbols);
+            same("symbols", &self.symbols, &block.output)?;
         }
         self.rows.block(places, &block)?;
         self.state = block.state;
@@ -109,7 +112,7 @@ impl<'a, 'b, W: Write> Run<'a, 'b, W> {
     /// The state in force, as the answer that it is.
     fn tell_state(&mut self) -> io::Result<()> {
         if let Some(front) = &self.front {
-            let rust = State::of(front).numbers();
+            let rust = front.state().numbers();
             same("the state", &rust, &self.state.numbers())?;
         }
         self.rows.state(&self.state)
@@ -118,12 +121,7 @@ impl<'a, 'b, W: Write> Run<'a, 'b, W> {
     fn read(&mut self) -> io::Result<()> {
         let read = self.reading.read(&self.state);
         if let Some(front) = &self.front {
-            let numbers = [
-                front.period().into(),
-                front.gain().into(),
-                front.symbols() as i64,
-            ];
-            same("what is read", &numbers, &read.numbers)?;
+            same("what is read", &front.read(), &read.numbers)?;
         }
         self.rows.read(&read)
     }
@@ -138,14 +136,6 @@ fn block_size(r: &mut Random, pairs: u64) -> u64 {
         4..=6 => r.below(pairs / 3 + 1),
         _ => r.below(2 * pairs),
     }
-}
-
-/// The numbers of the symbols that isdb-rs makes of a block.
-fn processed(front: &mut Frontend, values: &[i16]) -> Vec<i64> {
-    let pairs: Vec<[i16; 2]> = values.chunks(2).map(|pair| [pair[0], pair[1]]).collect();
-    let mut symbols = Vec::new();
-    front.process(&pairs, &mut symbols);
-    symbols.iter().flat_map(program::numbers).collect()
 }
 
 /// Fails where isdb-rs and the reading differ, and says in which number first.

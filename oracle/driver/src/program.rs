@@ -1,10 +1,11 @@
-//! The symbol program over isdb-rs's front end: a sheet, its banks and pairs as text in, symbols as text out.
+//! The symbol program over isdb-rs's front end: a sheet, its banks and pairs as text in, symbols as text out. Under a delay
+//! other than isdb-rs's the reading of docs/RULES.md stands in for it.
 
+use crate::front::Front;
 use crate::random::Random;
 use crate::reading::SYMBOL;
 use crate::sheet::{FIELDS, Sheet, joined};
-use crate::{number, state, usage};
-use isdb_frontend::fixed::{Frontend, Symbol};
+use crate::{number, usage};
 use std::io::{self, BufRead, Write};
 
 const LONGEST: usize = 1024;
@@ -98,8 +99,7 @@ pub fn run(options: Options, input: impl BufRead, output: &mut impl Write) -> io
     if let Some(number) = sheet.judge().first() {
         return writeln!(output, "refused,{number},0");
     }
-    let front = Frontend::new(sheet.params()).expect("a sheet that was judged");
-    run_pairs(options, front, &mut lines, output)
+    run_pairs(options, &sheet, &mut lines, output)
 }
 
 /// The sheet and its banks, or a refusal's number and line.
@@ -131,11 +131,12 @@ fn read_sheet<R: BufRead>(lines: &mut Lines<R>) -> io::Result<Result<Sheet, (u8,
 
 fn run_pairs<R: BufRead>(
     mut options: Options,
-    mut front: Frontend,
+    sheet: &Sheet,
     lines: &mut Lines<R>,
     output: &mut impl Write,
 ) -> io::Result<()> {
     const PAIR: [(i64, i64); 2] = [(i16::MIN as i64, i16::MAX as i64); 2];
+    let mut front = Front::start(sheet);
     let mut samples = 0u64;
     let mut block = Vec::new();
     let mut symbols = Vec::new();
@@ -158,15 +159,13 @@ fn run_pairs<R: BufRead>(
         }
     };
     flush(&mut front, &mut block, &mut symbols, output)?;
+    let state = front.state();
     match refused {
         Some(number) => writeln!(output, "refused,{number},{}", lines.count)?,
-        None => {
-            let t = state::value_of(&front, "t_acc");
-            writeln!(output, "end,{samples},{},{t}", front.symbols())?;
-        }
+        None => writeln!(output, "end,{samples},{},{}", state.symbols, state.t_acc)?,
     }
     if options.state {
-        state::write(&front, output)
+        state.write(sheet.taps, output)
     } else {
         Ok(())
     }
@@ -174,44 +173,15 @@ fn run_pairs<R: BufRead>(
 
 /// Runs the block and writes its symbols.
 fn flush(
-    front: &mut Frontend,
+    front: &mut Front,
     block: &mut Vec<[i16; 2]>,
-    symbols: &mut Vec<Symbol>,
+    symbols: &mut Vec<i64>,
     output: &mut impl Write,
 ) -> io::Result<()> {
-    symbols.clear();
     front.process(block, symbols);
     block.clear();
-    for s in symbols.iter() {
-        writeln!(output, "{}", joined(&numbers(s)))?;
+    for symbol in symbols.chunks(SYMBOL) {
+        writeln!(output, "{}", joined(symbol))?;
     }
     Ok(())
-}
-
-/// A symbol's numbers, in the order of its places.
-pub fn numbers(s: &Symbol) -> [i64; SYMBOL] {
-    let [y, dy, yk, z, dz, zk] = [s.y, s.dy, s.yk, s.z, s.dz, s.zk].map(|v| v.map(i64::from));
-    let q = s.q.map(i64::from);
-    [
-        s.sample as i64,
-        s.phase.into(),
-        y[0],
-        y[1],
-        dy[0],
-        dy[1],
-        yk[0],
-        yk[1],
-        s.gain.into(),
-        s.period.into(),
-        z[0],
-        z[1],
-        dz[0],
-        dz[1],
-        zk[0],
-        zk[1],
-        q[0],
-        q[1],
-        s.e.into(),
-        s.err.into(),
-    ]
 }

@@ -5,7 +5,7 @@
 mod way;
 
 use crate::sheet::Sheet;
-use crate::state::State;
+use crate::state::{RING, State};
 use isdb_frontend::tables::cos_table;
 
 /// Numbers that a symbol writes.
@@ -153,8 +153,8 @@ impl<'a> Reading<'a> {
             && (-most..=most).contains(&state.v)
             && (sheet.period_min.into()..=sheet.period_max.into()).contains(&state.period)
             && (0..1 << 24).contains(&state.gain_acc)
-            && state.waiting == state.symbols.min(24)
-            && (0..24).contains(&state.oldest)
+            && state.waiting == state.symbols.min(sheet.delay.into())
+            && (0..RING as i128).contains(&state.oldest)
             && state.symbols <= state.samples
     }
 }

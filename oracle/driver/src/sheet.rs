@@ -1,10 +1,11 @@
 //! A sheet with its banks, as text and as isdb-rs's `Params`, and its judgement by the numbers of the refusals.
 //!
-//! As text for judging a sheet is four lines: its 17 fields, then the banks h, g and k, a line each, row by row.
+//! As text for judging a sheet is four lines: its 18 fields, then the banks h, g and k, a line each, row by row.
 
 use crate::usage;
 use isdb_frontend::params::{PHASES, ParamError, Params};
 use std::io::{self, BufRead, Write};
+use std::ops::RangeInclusive;
 
 #[derive(Debug, Clone, Default, PartialEq)]
 pub struct Sheet {
@@ -25,18 +26,25 @@ pub struct Sheet {
     pub bits: u8,
     pub q_shift: u8,
     pub block_log2: u8,
+    pub delay: u8,
     /// h, g and k, each row by row.
     pub banks: [Vec<i32>; 3],
 }
 
+/// The delay of every design, and of isdb-rs where nothing of it is changed.
+pub const DESIGN_DELAY: u8 = 24;
+
+/// The delays that judging accepts.
+pub const DELAYS: RangeInclusive<u8> = 1..=24;
+
 /// Lowest and highest value of each field's type, in the fields' order.
-pub const FIELDS: [(i64, i64); 17] = {
+pub const FIELDS: [(i64, i64); 18] = {
     const U8: (i64, i64) = (0, u8::MAX as i64);
     const I16: (i64, i64) = (i16::MIN as i64, i16::MAX as i64);
     const U32: (i64, i64) = (0, u32::MAX as i64);
     const I32: (i64, i64) = (i32::MIN as i64, i32::MAX as i64);
     [
-        U32, I32, U32, U32, U32, U8, I16, U8, I16, U8, I32, U32, U32, U8, U8, U8, U8,
+        U32, I32, U32, U32, U32, U8, I16, U8, I16, U8, I32, U32, U32, U8, U8, U8, U8, U8,
     ]
 };
 
@@ -55,7 +63,7 @@ const RANGED: [&str; 8] = [
 const BANKS: [&str; 3] = ["h", "g", "k"];
 
 impl Sheet {
-    pub fn fields(&self) -> [i64; 17] {
+    pub fn fields(&self) -> [i64; FIELDS.len()] {
         [
             self.taps.into(),
             self.nco_step.into(),
@@ -74,6 +82,7 @@ impl Sheet {
             self.bits.into(),
             self.q_shift.into(),
             self.block_log2.into(),
+            self.delay.into(),
         ]
     }
 
@@ -97,11 +106,12 @@ impl Sheet {
             bits: f[14] as u8,
             q_shift: f[15] as u8,
             block_log2: f[16] as u8,
+            delay: f[17] as u8,
             banks: Default::default(),
         }
     }
 
-    /// The sheet that isdb-rs designed.
+    /// The sheet that isdb-rs designed. isdb-rs has no field for the delay.
     pub fn designed(p: &Params) -> Self {
         Self {
             taps: p.taps() as u32,
@@ -121,6 +131,7 @@ impl Sheet {
             bits: p.bits,
             q_shift: p.q_shift,
             block_log2: p.block_log2,
+            delay: DESIGN_DELAY,
             banks: [p.h.concat(), p.g.concat(), p.k.concat()],
         }
     }
@@ -154,10 +165,11 @@ impl Sheet {
     }
 
     /// What isdb-rs says of the sheet, by the refusals' numbers: the number and what it carries, or nothing where
-    /// the sheet is accepted. 8 is no refusal of isdb-rs: it comes after all that isdb-rs tests.
+    /// the sheet is accepted. 8 and 29 are no refusals of isdb-rs: they come after all that isdb-rs tests.
     pub fn judge(&self) -> Vec<i64> {
         match self.params().validate() {
             Ok(()) if self.agc_shift > 63 => vec![8],
+            Ok(()) if !DELAYS.contains(&self.delay) => vec![29],
             Ok(()) => Vec::new(),
             Err(ParamError::Taps { .. }) => vec![1],
             Err(ParamError::Phases { .. } | ParamError::RaggedBank { .. }) => vec![2],
@@ -195,14 +207,14 @@ impl Sheet {
 
     fn read(lines: &[String]) -> io::Result<Self> {
         let fields: Vec<i64> = numbers(&lines[0])?;
-        if fields.len() != 17
+        if fields.len() != FIELDS.len()
             || fields
                 .iter()
                 .zip(FIELDS)
                 .any(|(f, (lo, hi))| !(lo..=hi).contains(f))
         {
             return Err(usage(&format!(
-                "not the 17 fields of a sheet: {}",
+                "not the 18 fields of a sheet: {}",
                 lines[0]
             )));
         }

@@ -1,7 +1,14 @@
 //! A front end's whole state. isdb-rs keeps it private, but shows all of it in its debug form, which is read here.
 
+use crate::sheet::joined;
 use isdb_frontend::fixed::Frontend;
 use std::io::{self, Write};
+
+/// Places for errors, whatever the delay.
+pub const RING: usize = 24;
+
+/// Pairs of errors by their places.
+pub type Errors = [[i128; 2]; RING];
 
 /// A state in the form that RULES 3.1 gives it, with its numbers wide enough for any that its types can hold.
 #[derive(Debug, Clone)]
@@ -20,7 +27,7 @@ pub struct State {
     pub waiting: i128,
     pub samples: i128,
     pub line: [[i128; 2]; 64],
-    pub errors: [[i128; 2]; 24],
+    pub errors: Errors,
 }
 
 impl State {
@@ -37,13 +44,14 @@ impl State {
             waiting: 0,
             samples: 0,
             line: [[0, 0]; 64],
-            errors: [[0, 0]; 24],
+            errors: [[0, 0]; RING],
         }
     }
 
     /// The state of a front end of isdb-rs. Its queue has no positions: those of RULES 3.6 follow from the symbols that
-    /// were made, symbol j's errors standing at place j modulo 24.
-    pub fn of(front: &Frontend) -> Self {
+    /// were made, symbol j's errors standing at place j modulo 24. It keeps nothing of errors that no longer wait; `left` is
+    /// what the symbols left in all places.
+    pub fn of(front: &Frontend, left: &Errors) -> Self {
         let text = format!("{front:?}");
         let text = whole(&text);
         let number = |name| value(text, name).parse().expect("a number");
@@ -57,16 +65,17 @@ impl State {
             gain_acc: number("gain_acc"),
             symbols,
             head: number("head"),
-            oldest: if symbols > 24 { symbols % 24 } else { 0 },
+            oldest: (symbols - waiting.len() as i128) % RING as i128,
             waiting: waiting.len() as i128,
             samples: number("samples"),
+            errors: *left,
             ..Self::zeros()
         };
         for (place, pair) in state.line.iter_mut().zip(pairs(text, "line")) {
             *place = pair;
         }
         for (j, errors) in (symbols - state.waiting..).zip(waiting) {
-            state.errors[(j % 24) as usize] = errors;
+            state.errors[j as usize % RING] = errors;
         }
         state
     }
@@ -92,25 +101,29 @@ impl State {
             .map(|n| *n as i64)
             .collect()
     }
-}
 
-/// Three lines: position of the newest pair, nco, t, v, period, gain accumulator, samples, symbols; then the line's
-/// pairs in the order in which they are stored; then the waiting errors, the oldest first.
-pub fn write(front: &Frontend, output: &mut impl Write) -> io::Result<()> {
-    let text = format!("{front:?}");
-    let text = whole(&text);
-    let numbers = [
-        "head", "nco", "t_acc", "v", "period", "gain_acc", "samples", "symbols",
-    ];
-    let values: Vec<String> = numbers.iter().map(|n| value(text, n)).collect();
-    writeln!(output, "state,{}", values.join(","))?;
-    writeln!(output, "line{}", flat(text, "line"))?;
-    writeln!(output, "waiting{}", flat(text, "pending"))
-}
-
-/// One number of the state.
-pub fn value_of(front: &Frontend, name: &str) -> String {
-    value(whole(&format!("{front:?}")), name)
+    /// Three lines: position of the newest pair, nco, t, v, period, gain accumulator, samples, symbols; then the line's
+    /// pairs in the order in which they are stored, so many as there are taps; then the waiting errors, the oldest first.
+    pub fn write(&self, taps: u32, output: &mut impl Write) -> io::Result<()> {
+        let own = [
+            self.head,
+            self.nco,
+            self.t_acc,
+            self.v,
+            self.period,
+            self.gain_acc,
+            self.samples,
+            self.symbols,
+        ];
+        let errors = |n: i128| self.errors[(self.oldest + n) as usize % RING];
+        let waiting: Vec<i128> = (0..self.waiting).flat_map(errors).collect();
+        let line = self.line[..taps as usize].as_flattened();
+        for (name, numbers) in [("state", &own[..]), ("line", line), ("waiting", &waiting)] {
+            let comma = if numbers.is_empty() { "" } else { "," };
+            writeln!(output, "{name}{comma}{}", joined(numbers))?;
+        }
+        Ok(())
+    }
 }
 
 /// The debug form from where the state begins: before that stand the parameters and the cosine table.

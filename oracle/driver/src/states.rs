@@ -5,28 +5,29 @@ use crate::generate::{self, ends};
 use crate::random::Random;
 use crate::reading::{Reading, SYMBOL};
 use crate::rows::Rows;
-use crate::sheet::Sheet;
-use crate::state::State;
+use crate::sheet::{DELAYS, Sheet};
+use crate::state::{RING, State};
 use std::io::{self, Write};
 
-/// States under a sheet before there is another.
+/// States under the banks of a sheet before there are others.
 const SHARED: u64 = 25;
 /// The most samples that can be counted.
 const LAST: i64 = i64::MAX;
 
+/// States of a kind of sheets. The banks are shared by some; each has another delay, but for small sheets.
 pub fn write(kind: &str, seed: u64, count: u64, output: &mut impl Write) -> io::Result<()> {
     let mut r = Random::new(seed);
     let mut rows = Rows::new(output);
-    let mut left = count;
-    while left > 0 {
-        let sheet = generate::sheet(kind, &mut r)?;
-        let reading = Reading::of(&sheet);
-        rows.sheet(&sheet)?;
-        for _ in 0..left.min(SHARED) {
-            let state = any_state(&mut r, &sheet);
-            calls(&mut rows, &reading, state, &mut r)?;
+    let mut sheet = Sheet::default();
+    for n in 0..count {
+        if n % SHARED == 0 {
+            sheet = generate::sheet(kind, &mut r)?;
+        } else if kind != "small" && DELAYS.contains(&sheet.delay) {
+            sheet.delay = generate::any_delay(&mut r);
         }
-        left = left.saturating_sub(SHARED);
+        rows.sheet(&sheet)?;
+        let state = any_state(&mut r, &sheet);
+        calls(&mut rows, &Reading::of(&sheet), state, &mut r)?;
     }
     Ok(())
 }
@@ -121,7 +122,7 @@ fn exchange(r: &mut Random, pairs: &mut [[i128; 2]], other: &[[i128; 2]]) {
 /// A state with every register anywhere within its bounds, at one of them, or next to it.
 fn good_state(r: &mut Random, sheet: &Sheet) -> State {
     let most = i64::from(sheet.integrator_max) << 16;
-    let (symbols, samples) = counts(r);
+    let (symbols, samples) = counts(r, sheet.delay);
     let line = r.pick(&[31, 31, 31, 16, 13, 0]);
     let errors = r.pick(&[31, 31, 23, 10]);
     State {
@@ -132,8 +133,8 @@ fn good_state(r: &mut Random, sheet: &Sheet) -> State {
         gain_acc: within(r, 0, (1 << 24) - 1),
         symbols,
         head: within(r, 0, i64::from(sheet.taps).max(1) - 1),
-        oldest: within(r, 0, 23),
-        waiting: symbols.min(24),
+        oldest: within(r, 0, RING as i64 - 1),
+        waiting: symbols.min(sheet.delay.into()),
         samples,
         line: std::array::from_fn(|_| pair(r, line)),
         errors: std::array::from_fn(|_| pair(r, errors)),
@@ -163,7 +164,8 @@ fn pair(r: &mut Random, bits: u32) -> [i128; 2] {
 }
 
 /// Symbols, often around the number that can wait; and samples, which are at least as many and often around the last.
-fn counts(r: &mut Random) -> (i128, i128) {
+fn counts(r: &mut Random, delay: u8) -> (i128, i128) {
+    let delay = i64::from(delay);
     let samples: i128 = match r.below(8) {
         0 => r.between(0, 60).into(),
         1 | 2 => (LAST - r.between(0, 13)).into(),
@@ -174,7 +176,7 @@ fn counts(r: &mut Random) -> (i128, i128) {
         0 => samples,
         1 => r.next().into(),
         2 => r.between(0, 60).into(),
-        _ => r.between(22, 26).into(),
+        _ => r.between(delay - 2, delay + 2).max(0).into(),
     };
     (symbols.min(samples), samples)
 }
@@ -195,16 +197,29 @@ pub fn spoil(r: &mut Random, sheet: &Sheet, state: &mut State) {
             state.period = r.pick(&past).into();
         }
         4 => state.gain_acc = r.pick(&[1 << 24, (1 << 24) + 1, u32::MAX.into()]),
-        5 => {
-            let right = state.waiting;
-            let other = if right == 24 { 0 } else { 24 };
-            state.waiting = r.pick(&[right + 1, (right + 24) % 25, other, far]);
-        }
-        6 => state.oldest = r.pick(&[24, 24, 25, far]),
+        5 => state.waiting = wrong_waiting(r, sheet, state, far),
+        6 => state.oldest = r.pick(&[RING as i128, RING as i128, RING as i128 + 1, far]),
         _ => {
-            state.samples = r.pick(&[0, 22, 23, 24, 1 << 32, LAST.into()]);
+            let delay = i128::from(sheet.delay);
+            let below = |n: i128| (delay - n).max(0);
+            state.samples = r.pick(&[0, below(2), below(1), delay, 1 << 32, LAST.into()]);
             state.symbols = r.pick(&[state.samples + 1, state.samples + 1, u64::MAX.into()]);
-            state.waiting = state.symbols.min(24);
+            state.waiting = state.symbols.min(delay);
         }
     }
+}
+
+/// A number of waiting errors next to the right one, at the other end of what it can be, or far away; and, where the delay is
+/// shorter than the ring, the number that would be right if it were as long.
+fn wrong_waiting(r: &mut Random, sheet: &Sheet, state: &State, far: i128) -> i128 {
+    let (right, delay) = (state.waiting, i128::from(sheet.delay));
+    let other = if right == delay { 0 } else { delay };
+    let less = if right == 0 { delay } else { right - 1 };
+    let mut wrong = vec![right + 1, less, other, far];
+    let ring = RING as i128;
+    if delay < ring {
+        wrong.extend([ring, state.symbols.min(ring)]);
+    }
+    wrong.retain(|n| *n != right);
+    r.pick(&wrong)
 }

@@ -110,7 +110,7 @@ same-length c = search needs
 
 -- where the design has one, the number of places decides
 sized : (p : Params) (places : List ℤ)
-    → sheetWritten p places ≡ answered (firstNumber 0 (cond (leb 17 (length places)) 0 11)) (writtenBy (accepted p) places) places
+    → sheetWritten p places ≡ answered (firstNumber 0 (cond (leb 18 (length places)) 0 11)) (writtenBy (accepted p) places) places
 unfolding sheetWritten
 sized p places = refl
 
@@ -120,7 +120,7 @@ returns-3 c =
     let arm = c .before .before .before .before in
     let designed = arm .before .before in
     let places = start designed .args .sheet .now in
-    let room : ℕ = cond (leb 17 (length places)) 0 11 in
+    let room : ℕ = cond (leb 18 (length places)) 0 11 in
     let is : accepted (arm .verdict2 .given .0 .0) ≡ answer designed = sym (ap sheetAnswer (arm .verdict2 .given .1)) ∙ told designed in
     c .before .write-sheet .ensures
     ∙ sized _ places

@@ -1,12 +1,10 @@
 //! A sample's way: mixed, into the line, and out as a symbol when one is due.
 
 use super::{Reading, SYMBOL};
-use crate::state::State;
+use crate::state::{RING, State};
 
 /// A sample, the unit of t and of periods.
 const ONE: i128 = 1 << 24;
-/// Symbols that errors wait.
-const DELAY: i128 = 24;
 
 impl Reading<'_> {
     /// Takes a pair, and gives the numbers of the symbol that it brings, if it brings one.
@@ -30,7 +28,7 @@ impl Reading<'_> {
     fn symbol(&self, s: &mut State) -> [i128; SYMBOL] {
         let sheet = self.sheet;
         let phase = s.t_acc >> 18;
-        if s.waiting == DELAY {
+        if s.waiting == i128::from(sheet.delay) {
             let errors = taken(s);
             self.steer(s, errors);
         }
@@ -52,7 +50,7 @@ impl Reading<'_> {
         symbol
     }
 
-    /// What the errors of 24 symbols ago do to integrator, period and gain.
+    /// What errors that are due do to integrator, period and gain.
     fn steer(&self, s: &mut State, [e, err]: [i128; 2]) {
         let sheet = self.sheet;
         let most = self.integrator_bound();
@@ -81,17 +79,17 @@ impl Reading<'_> {
     }
 }
 
-/// Takes out the errors that have waited longest.
+/// Takes out the errors that have waited longest. Their place keeps them.
 fn taken(s: &mut State) -> [i128; 2] {
     let errors = s.errors[s.oldest as usize];
-    s.oldest = (s.oldest + 1) % DELAY;
+    s.oldest = (s.oldest + 1) % RING as i128;
     s.waiting -= 1;
     errors
 }
 
 /// Puts errors behind those that wait.
 fn join(s: &mut State, errors: [i128; 2]) {
-    s.errors[((s.oldest + s.waiting) % DELAY) as usize] = errors;
+    s.errors[(s.oldest + s.waiting) as usize % RING] = errors;
     s.waiting += 1;
 }
 

@@ -48,6 +48,7 @@ returns c =
       «agc_shift» = 4;
       bits = d .bits;
       «block_log2» = d .«block_log2»;
+      delay = 24;
     }
 
 pub registers-at-spec : {M : Type 1} → statement M

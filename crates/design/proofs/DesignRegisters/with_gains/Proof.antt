@@ -35,6 +35,7 @@ returns c =
       bits = r .bits;
       «q_shift» = gains .«q_shift»;
       «block_log2» = r .«block_log2»;
+      delay = r .delay;
     }
 
 pub with-gains-spec : {M : Type 1} → statement M

@@ -21,7 +21,7 @@ signed : (w : Width) (z : ℤ) {y : ℤ} → mag z < 2 ^ hbits w → z ≡ y →
 signed w z h e = held w z h ∙ e
 
 -- each place was looked at
-looked : (s : tie.Start) (n : ℕ) → n < 17 → KindAt (getD sheetKinds n 0) (now (s .args .sheet)) n
+looked : (s : tie.Start) (n : ℕ) → n < 18 → KindAt (getD sheetKinds n 0) (now (s .args .sheet)) n
 looked s n h = sheet-at (now (s .args .sheet)) (s .pre) n h
 
 u32-at-requires : tie.Need-u32-at-requires
@@ -77,10 +77,14 @@ u8-at-requires-7 : tie.Need-u8-at-requires-7
 u8-at-requires-7 c κs = looked
     (c .before .before .before .before .before .before .before .before .before .before .before .before .before .before .before .before) 16 (lit< tt)
 
+u8-at-requires-8 : tie.Need-u8-at-requires-8
+u8-at-requires-8 c κs = looked
+    (c .before .before .before .before .before .before .before .before .before .before .before .before .before .before .before .before .before) 17 (lit< tt)
+
 returns : tie.Need-returns
 unfolding paramsAt
 returns c =
-    let end = c .before .before .before .before .before .before in
+    let end = c .before .before .before .before .before .before .before in
     let ki = end .before .before in
     let kp = ki .before .before in
     let max = kp .before .before in
@@ -98,12 +102,13 @@ returns c =
       ki = signed w16 (ki .i16-at2 .result) (ki .i16-at2 .ok) (ki .i16-at2 .ensures) i;
       «ki_shift» = end .before .u8-at3 .ensures i;
       «integrator_max» = signed w32 (end .i32-at2 .result) (end .i32-at2 .ok) (end .i32-at2 .ensures) i;
-      «agc_init» = c .before .before .before .before .before .u32-at5 .ensures i;
-      «agc_target» = c .before .before .before .before .u32-at6 .ensures i;
-      «agc_shift» = c .before .before .before .u8-at4 .ensures i;
-      bits = c .before .before .u8-at5 .ensures i;
-      «q_shift» = c .before .u8-at6 .ensures i;
-      «block_log2» = c .u8-at7 .ensures i;
+      «agc_init» = c .before .before .before .before .before .before .u32-at5 .ensures i;
+      «agc_target» = c .before .before .before .before .before .u32-at6 .ensures i;
+      «agc_shift» = c .before .before .before .before .u8-at4 .ensures i;
+      bits = c .before .before .before .u8-at5 .ensures i;
+      «q_shift» = c .before .before .u8-at6 .ensures i;
+      «block_log2» = c .before .u8-at7 .ensures i;
+      delay = c .u8-at8 .ensures i;
     }
 
 pub params-of-spec : {M : Type 1} → statement M
@@ -127,4 +132,5 @@ params-of-spec =
     u8-at-requires-5
     u8-at-requires-6
     u8-at-requires-7
+    u8-at-requires-8
     returns)

@@ -1,4 +1,4 @@
--- `places::sheet::write` meets its contract: each field fits a place and is read back as itself (Widths), and 17 stores from place 0 on leave the numbers
+-- `places::sheet::write` meets its contract: each field fits a place and is read back as itself (Widths), and 18 stores from place 0 on leave the numbers
 -- of the sheet in front of what stood behind them (`lib.Seq`, `sets-eq`).
 use Prim.Native.Nat.{ℕ, _≤_, _<_}
 use mathlib.Core.Path.{_≡_}
@@ -149,6 +149,17 @@ slice-set-from-sheet-17 c = simp length-set
           .before .before .before .before .pre,
     ))
 
+cast-sheet-18 : tie.Need-cast-sheet-18
+cast-sheet-18 c = places-8 _ (c .struct-known18 .given .1 .1 .1 .1 .1 .1 .1 .1 .1 .1 .1 .1 .1 .1 .1 .1 .1 .0)
+
+slice-set-from-sheet-18 : tie.Need-slice-set-from-sheet-18
+slice-set-from-sheet-18 c = simp length-set
+    (omega (
+      arith,
+      c .before .before .before .before .before .before .before .before .before .before .before .before .before .before .before .before .before
+          .before .before .before .before .before .pre,
+    ))
+
 same-length : tie.Need-same-length
 same-length c = simp length-set
 
@@ -171,6 +182,7 @@ record Typed (p : Params) : Type 0 where
   bits : Fits w8 (p .bits)
   «q_shift» : Fits w8 (p .«q_shift»)
   «block_log2» : Fits w8 (p .«block_log2»)
+  delay : Fits w8 (p .delay)
 
 -- the casts of the three kinds of fields, as the machine makes them
 abbrev u : ℕ → ℤ
@@ -182,14 +194,14 @@ i16 z = toZ w64 (ofZ w64 (toZ w16 (ofZ w16 z)))
 abbrev i32 : ℤ → ℤ
 i32 z = toZ w64 (ofZ w64 (toZ w32 (ofZ w32 z)))
 
--- what 17 stores leave, once the casts are read back
-stored : (p : Params) (l : List ℤ) → Typed p → 17 ≤ length l
+-- what 18 stores leave, once the casts are read back
+stored : (p : Params) (l : List ℤ) → Typed p → 18 ≤ length l
     → sets l 0 (u (p .taps) ∷ i32 (p .«nco_step») ∷ u (p .«period_nominal») ∷ u (p .«period_min») ∷ u (p .«period_max») ∷ u (p .«ted_shift») ∷ i16 (p .kp) ∷ u
     (p .«kp_shift»)
     ∷ i16 (p .ki) ∷ u (p .«ki_shift») ∷ i32 (p .«integrator_max») ∷ u (p .«agc_init») ∷ u (p .«agc_target») ∷ u (p .«agc_shift») ∷ u (p .bits) ∷ u
     (p .«q_shift»)
-    ∷ u (p .«block_log2») ∷ [])
-    ≡ sheetNumbers p ++ drop 17 l
+    ∷ u (p .«block_log2») ∷ u (p .delay) ∷ [])
+    ≡ sheetNumbers p ++ drop 18 l
 unfolding sheetNumbers
 stored p l t long =
     simp (
@@ -210,17 +222,18 @@ stored p l t long =
       whole-8 (p .bits) (t .bits),
       whole-8 (p .«q_shift») (t .«q_shift»),
       whole-8 (p .«block_log2») (t .«block_log2»),
+      whole-8 (p .delay) (t .delay),
     ) (sets-eq (sheetNumbers p) l 0 (omega arith))
 
 returns : tie.Need-returns
 returns c =
     let s = c .before .before .before .before .before .before .before .before .before .before .before .before .before .before .before .before .before .before
-    .before .before .before in
-    let known = c .struct-known17 .given in
+    .before .before .before .before in
+    let known = c .struct-known18 .given in
     let after-step = known .1 .1 in
     let after-kp = after-step .1 .1 .1 .1 .1 in
     let after-max = after-kp .1 .1 .1 .1 in
-    let told = c .before .before .before .before .before .before .struct-told4 .given in
+    let told = c .before .before .before .before .before .before .before .struct-told4 .given in
     let from-kp = told .1 .1 .1 .1 .1 .1 in
     stored (s .args .p) (s .args .sheet .now)
     (record {
@@ -241,6 +254,7 @@ returns c =
       bits = after-max .1 .1 .1 .0;
       «q_shift» = after-max .1 .1 .1 .1 .0;
       «block_log2» = after-max .1 .1 .1 .1 .1 .0;
+      delay = after-max .1 .1 .1 .1 .1 .1 .0;
     })
     (s .pre)
 
@@ -282,5 +296,7 @@ write-spec =
     slice-set-from-sheet-16
     cast-sheet-17
     slice-set-from-sheet-17
+    cast-sheet-18
+    slice-set-from-sheet-18
     same-length
     returns)

@@ -16,7 +16,7 @@ returns : tie.Need-returns
 unfolding sheetWritten
 returns c =
     let l = c .before .args .sheet .now in
-    let short : _≡_ {A = ℕ} 11 (cond (leb 17 (length l)) 0 11) = rw (lt-leb 17 (length l) (c .if1 .taken)) refl in
+    let short : _≡_ {A = ℕ} 11 (cond (leb 18 (length l)) 0 11) = rw (lt-leb 18 (length l) (c .if1 .taken)) refl in
     refuses _ _ _ (λ z. absurd (omega arith)) short
 
 write-requires : tie.Need-write-requires
@@ -30,7 +30,7 @@ unfolding sheetWritten
 returns-2 c =
     let right = c .before .before .before in
     let l = right .before .args .sheet .now in
-    let long : _≡_ {A = ℕ} 0 (cond (leb 17 (length l)) 0 11) = rw (le-leb 17 (length l) (right .if1 .left)) refl in
+    let long : _≡_ {A = ℕ} 0 (cond (leb 18 (length l)) 0 11) = rw (le-leb 18 (length l) (right .if1 .left)) refl in
     writes _ _ _ long (c .before .write .ensures)
 
 pub write-sheet-spec : {M : Type 1} → statement M

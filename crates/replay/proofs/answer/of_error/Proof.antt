@@ -9,7 +9,7 @@ use mir.Syntax.{w32, w64}
 use borrow.Author.Needs.{needs}
 use Rattle.arith.proofs.Bits.{held}
 use Rattle.params.specs.declared.ParamError.{ParamError}
-use Rattle.params.specs.declared.ParamError.the-variants.{Taps, BankLength, Coefficient, CoefficientSum, DetectorTaps, PeriodBounds, Range, AgcShift}
+use Rattle.params.specs.declared.ParamError.the-variants.{Taps, BankLength, Coefficient, CoefficientSum, DetectorTaps, PeriodBounds, Range, AgcShift, Delay}
 use Rattle.params.specs.Refusal.{errorRefusal}
 use Rattle.params.proofs.ParamError.{the-type}
 use Rattle.rows.specs.Rows.{signedBits}
@@ -87,15 +87,16 @@ returns-4 c =
     c .of-bank2 .ensures ∙ ap (λ (n : ℕ). carriesOne n (pos (x .0 .0))) (numbered (known .before .before) (x .1)) ∙ sym (ap ofError (x .1))
 
 -- the cases that carry nothing
-plain : (e : ParamError) → OneOf (0 ∷ 1 ∷ 5 ∷ 7 ∷ []) (tagOf the-type e) → carriesNone (errorRefusal e .number) ≡ ofError e
+plain : (e : ParamError) → OneOf (0 ∷ 1 ∷ 5 ∷ 7 ∷ 8 ∷ []) (tagOf the-type e) → carriesNone (errorRefusal e .number) ≡ ofError e
 plain Taps k = refl
 plain BankLength k = refl
-plain (Coefficient bank phase value) k = absurd (miss (0 ∷ 1 ∷ 5 ∷ 7 ∷ []) 2 tt k)
-plain (CoefficientSum bank phase sum) k = absurd (miss (0 ∷ 1 ∷ 5 ∷ 7 ∷ []) 3 tt k)
-plain (DetectorTaps bank) k = absurd (miss (0 ∷ 1 ∷ 5 ∷ 7 ∷ []) 4 tt k)
+plain (Coefficient bank phase value) k = absurd (miss (0 ∷ 1 ∷ 5 ∷ 7 ∷ 8 ∷ []) 2 tt k)
+plain (CoefficientSum bank phase sum) k = absurd (miss (0 ∷ 1 ∷ 5 ∷ 7 ∷ 8 ∷ []) 3 tt k)
+plain (DetectorTaps bank) k = absurd (miss (0 ∷ 1 ∷ 5 ∷ 7 ∷ 8 ∷ []) 4 tt k)
 plain PeriodBounds k = refl
-plain (Range field) k = absurd (miss (0 ∷ 1 ∷ 5 ∷ 7 ∷ []) 6 tt k)
+plain (Range field) k = absurd (miss (0 ∷ 1 ∷ 5 ∷ 7 ∷ 8 ∷ []) 6 tt k)
 plain AgcShift k = refl
+plain Delay k = refl
 
 returns-5 : tie.Need-returns-5
 returns-5 c =

@@ -1,0 +1,216 @@
+//! The loop's delay: where it is refused, when a symbol's errors act, and which states go on under which delay.
+
+mod common;
+
+use common::{RECORDING, recording};
+use huntelm::archive::{STATE, SYMBOL, Sheet};
+use huntelm::{Frontend, Params, Refusal, Symbol};
+use std::collections::HashSet;
+
+/// Places of a state: time, gain accumulator, symbols so far, the oldest errors' position, how many wait, and the first of the ring.
+const T: usize = 1;
+const GAIN_ACC: usize = 4;
+const SYMBOLS: usize = 5;
+const OLDEST: usize = 7;
+const WAITING: usize = 8;
+const PENDING: usize = 138;
+
+/// Pairs of errors for which the ring has room, at every delay.
+const RING: usize = 24;
+
+/// The recording's sheet with another delay, and its pairs.
+fn with_delay(delay: u8) -> (Params, Vec<[i16; 2]>) {
+    let (params, pairs) = recording(RECORDING);
+    (Params { delay, ..params }, pairs)
+}
+
+fn lent<'a>(p: &'a Params, places: &'a [i64]) -> Sheet<'a> {
+    Sheet {
+        places,
+        h: &p.h,
+        g: &p.g,
+        k: &p.k,
+    }
+}
+
+fn fresh(p: &Params) -> [i64; STATE] {
+    let mut state = [0; STATE];
+    assert_eq!(lent(p, &p.places()).start(&mut state), 0);
+    state
+}
+
+/// Takes one pair, and gives the symbol's places where one falls on it.
+fn step(p: &Params, state: &mut [i64; STATE], pair: [i16; 2]) -> Option<[i64; SYMBOL]> {
+    let mut symbol = [0; SYMBOL];
+    let count = lent(p, &p.places()).block(state, &pair, &mut symbol);
+    assert!(count == 0 || count == 1, "{count}");
+    (count == 1).then_some(symbol)
+}
+
+fn symbols(p: &Params, pairs: &[[i16; 2]]) -> Vec<Symbol> {
+    let mut symbols = Vec::new();
+    let mut front = Frontend::new(p.clone()).unwrap();
+    front.process(pairs, &mut symbols).unwrap();
+    symbols
+}
+
+/// Every call answers this refusal for the sheet, whatever else it is lent, and writes nothing.
+fn refused_by_all(sheet: Sheet, refusal: Refusal, state: &[i64], values: &[i16], room: usize) {
+    let number = refusal.number();
+    let mut places = state.to_vec();
+    let mut out = vec![-7; room];
+    assert_eq!(sheet.judge(), number);
+    assert_eq!(sheet.start(&mut places), number);
+    assert_eq!(sheet.read(&places, &mut out), number);
+    for period in [0, sheet.places[2] as u32] {
+        assert_eq!(sheet.offset(period, &mut out), number);
+    }
+    assert_eq!(
+        sheet.block(&mut places, values, &mut out),
+        -i64::from(number)
+    );
+    assert_eq!((&places[..], out), (state, vec![-7; room]));
+}
+
+#[test]
+fn a_refused_delay_comes_behind_8_and_before_what_is_not_of_the_sheet() {
+    let good = fresh(&with_delay(24).0);
+    let mut broken = good;
+    broken[T] = -1;
+    for (agc_shift, refusal) in [(4, Refusal::Delay), (64, Refusal::AgcShift)] {
+        for delay in [0, 25, 255] {
+            let (p, _) = with_delay(delay);
+            let p = Params { agc_shift, ..p };
+            let places = p.places();
+            refused_by_all(lent(&p, &places), refusal, &good, &[9; 4], 40);
+            refused_by_all(lent(&p, &places), refusal, &broken, &[9; 3], 0);
+            refused_by_all(lent(&p, &places), refusal, &good[1..], &[9; 3], 0);
+        }
+    }
+}
+
+#[test]
+fn errors_act_so_many_symbols_later() {
+    for delay in 1..=24 {
+        let (p, pairs) = with_delay(delay);
+        let symbols = symbols(&p, &pairs);
+        let rounded = |v: i64, shift: u8| (v + ((1 << shift) >> 1)) >> shift;
+        let nominal = i64::from(p.period_nominal);
+        let end = i64::from(p.integrator_max) << 16;
+        let (mut v, mut period, mut gain_acc) = (0, nominal, i64::from(p.agc_init));
+        for (n, symbol) in symbols.iter().enumerate() {
+            if let Some(due) = n.checked_sub(delay.into()) {
+                let (e, err) = (i64::from(symbols[due].e), i64::from(symbols[due].err));
+                v = (v + rounded(i64::from(p.ki) * e, p.ki_shift)).clamp(-end, end);
+                period = nominal + (v >> 16) + rounded(i64::from(p.kp) * e, p.kp_shift);
+                period = period.clamp(p.period_min.into(), p.period_max.into());
+                gain_acc = (gain_acc + (err >> p.agc_shift)).clamp(0, (1 << 24) - 1);
+            }
+            let made_with = (i64::from(symbol.period), i64::from(symbol.gain));
+            assert_eq!(
+                made_with,
+                (period, gain_acc / 256),
+                "delay {delay}, symbol {n}"
+            );
+        }
+        let mut front = Frontend::new(p).unwrap();
+        let single = pairs.iter().filter_map(|pair| front.push(*pair).unwrap());
+        assert_eq!(single.collect::<Vec<_>>(), symbols, "delay {delay}");
+    }
+}
+
+#[test]
+fn every_delay_has_its_own_periods() {
+    let mut seen = HashSet::new();
+    for delay in 1..=24 {
+        let (p, pairs) = with_delay(delay);
+        let periods: Vec<u32> = symbols(&p, &pairs).iter().map(|s| s.period).collect();
+        assert!(seen.insert(periods), "{delay}");
+    }
+}
+
+/// The errors of symbol j stand at position j modulo 24 until those of symbol j + 24 take it, also when they wait no longer.
+#[test]
+fn a_run_goes_round_the_whole_ring() {
+    for delay in 1..=24 {
+        let (p, pairs) = with_delay(delay);
+        let delay = usize::from(delay);
+        let mut state = fresh(&p);
+        let mut ring = [0; 2 * RING];
+        let mut made = 0;
+        for pair in &pairs[..150] {
+            if let Some(symbol) = step(&p, &mut state, *pair) {
+                ring[2 * (made % RING)..][..2].copy_from_slice(&symbol[18..]);
+                made += 1;
+            }
+            let counts = [SYMBOLS, OLDEST, WAITING].map(|place| state[place] as usize);
+            let oldest = made.saturating_sub(delay) % RING;
+            assert_eq!(counts, [made, oldest, made.min(delay)]);
+            assert_eq!(state[PENDING..], ring, "delay {delay}, {made} symbols");
+        }
+        assert!(made > 4 * RING);
+    }
+}
+
+/// A state need not be a run's: from wherever the oldest errors stand, the ring goes on from 23 to 0, and the places that are not written stay.
+#[test]
+fn the_oldest_may_stand_anywhere_in_the_ring() {
+    for delay in 1..=24 {
+        let (p, pairs) = with_delay(delay);
+        let delay = usize::from(delay);
+        let mut state = fresh(&p);
+        for pair in &pairs[..60] {
+            step(&p, &mut state, *pair);
+        }
+        // The next sample has a symbol, and by how much its gain accumulator rises says which errors were taken.
+        state[T] = 0;
+        for place in 0..RING {
+            let errors = [0, (place as i64 + 1) << p.agc_shift];
+            state[PENDING + 2 * place..][..2].copy_from_slice(&errors);
+        }
+        for oldest in 0..RING {
+            state[OLDEST] = oldest as i64;
+            let mut after = state;
+            let symbol = step(&p, &mut after, [300, -200]).unwrap();
+            assert_eq!(after[GAIN_ACC] - state[GAIN_ACC], oldest as i64 + 1);
+            let mut ring = state[PENDING..].to_vec();
+            ring[2 * ((oldest + delay) % RING)..][..2].copy_from_slice(&symbol[18..]);
+            assert_eq!(after[PENDING..], ring, "delay {delay}, from {oldest}");
+            let counts = [OLDEST, WAITING].map(|place| after[place] as usize);
+            assert_eq!(counts, [(oldest + 1) % RING, delay]);
+        }
+        state[OLDEST] = RING as i64;
+        let number = lent(&p, &p.places()).read(&state, &mut [0; 3]);
+        assert_eq!(number, Refusal::State.number());
+    }
+}
+
+/// As many errors wait as there are symbols, and no more than the delay: another delay takes a state only where that is the same number.
+#[test]
+fn a_state_under_another_delay() {
+    let mut seen = [0; 2];
+    for delay in 1..=24 {
+        let (p, pairs) = with_delay(delay);
+        let mut state = fresh(&p);
+        for pair in &pairs[..60] {
+            step(&p, &mut state, *pair);
+            let waiting = |delay: u8| state[SYMBOLS].min(delay.into());
+            for other in 1..=24 {
+                let mut places = p.places();
+                places[17] = other.into();
+                let sheet = lent(&p, &places);
+                let number = match waiting(other) == waiting(delay) {
+                    true => 0,
+                    false => Refusal::State.number(),
+                };
+                assert_eq!(sheet.read(&state, &mut [0; 3]), number);
+                let mut lent_state = state;
+                let count = sheet.block(&mut lent_state, &[], &mut []);
+                assert_eq!((count, lent_state), (-i64::from(number), state));
+                seen[usize::from(number != 0)] += 1;
+            }
+        }
+        assert!(state[SYMBOLS] > 24);
+    }
+    assert!(seen[0] > 1000 && seen[1] > 1000, "{seen:?}");
+}

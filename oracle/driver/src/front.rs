@@ -1,0 +1,135 @@
+//! Who runs a sheet from its start on: isdb-rs where it was built with the delay of the sheet, else the reading of
+//! docs/RULES.md.
+
+use crate::reading::{Reading, SYMBOL};
+use crate::sheet::Sheet;
+use crate::state::{Errors, RING, State};
+use isdb_frontend::fixed::{Frontend, Symbol};
+use isdb_frontend::params::LOOP_DELAY;
+
+/// The delay that isdb-rs was built with.
+pub const DELAY: u8 = LOOP_DELAY as u8;
+
+/// isdb-rs's front end. Its queue lets go of errors that are applied, and a state (RULES 3.1) keeps them until their place
+/// is written again; so what the symbols report of their errors is kept beside it.
+pub struct Rust {
+    front: Frontend,
+    errors: Errors,
+    /// The symbols of the last block.
+    symbols: Vec<Symbol>,
+}
+
+impl Rust {
+    /// A front end at its start; there is none for a sheet that is refused, or of another delay.
+    pub fn start(sheet: &Sheet) -> Option<Self> {
+        let runs = sheet.judge().is_empty() && sheet.delay == DELAY;
+        runs.then(|| Self {
+            front: Frontend::new(sheet.params()).expect("a sheet that was judged"),
+            errors: [[0, 0]; RING],
+            symbols: Vec::new(),
+        })
+    }
+
+    /// Runs a block and gives the numbers of its symbols in place of those that were there.
+    pub fn process(&mut self, pairs: &[[i16; 2]], output: &mut Vec<i64>) {
+        let before = self.front.symbols() as usize;
+        self.symbols.clear();
+        self.front.process(pairs, &mut self.symbols);
+        for (j, symbol) in (before..).zip(&self.symbols) {
+            self.errors[j % RING] = [symbol.e.into(), symbol.err.into()];
+        }
+        output.clear();
+        output.extend(self.symbols.iter().flat_map(numbers));
+    }
+
+    pub fn state(&self) -> State {
+        State::of(&self.front, &self.errors)
+    }
+
+    /// Period, gain and symbols.
+    pub fn read(&self) -> [i64; 3] {
+        let front = &self.front;
+        [
+            front.period().into(),
+            front.gain().into(),
+            front.symbols() as i64,
+        ]
+    }
+}
+
+/// A run of an accepted sheet, of whatever delay.
+pub enum Front<'a> {
+    Rust(Box<Rust>),
+    /// The reading, and the state that it handed back last.
+    Read(Box<(Reading<'a>, State)>),
+}
+
+impl<'a> Front<'a> {
+    pub fn start(sheet: &'a Sheet) -> Self {
+        match Rust::start(sheet) {
+            Some(rust) => Self::Rust(Box::new(rust)),
+            None => {
+                let reading = Reading::of(sheet);
+                let state = reading.start();
+                Self::Read(Box::new((reading, state)))
+            }
+        }
+    }
+
+    /// Runs a block and gives the numbers of its symbols in place of those that were there.
+    pub fn process(&mut self, pairs: &[[i16; 2]], output: &mut Vec<i64>) {
+        match self {
+            Self::Rust(rust) => rust.process(pairs, output),
+            Self::Read(run) => {
+                let (reading, state) = &mut **run;
+                let block = reading.block(state, pairs.as_flattened(), SYMBOL * pairs.len());
+                assert_eq!(block.refusal, [], "a block of a run");
+                *state = block.state;
+                *output = block.output;
+            }
+        }
+    }
+
+    pub fn state(&self) -> State {
+        match self {
+            Self::Rust(rust) => rust.state(),
+            Self::Read(run) => run.1.clone(),
+        }
+    }
+
+    /// Period, gain and symbols.
+    pub fn read(&self) -> [i64; 3] {
+        match self {
+            Self::Rust(rust) => rust.read(),
+            Self::Read(run) => run.0.read(&run.1).numbers,
+        }
+    }
+}
+
+/// A symbol's numbers, in the order of its places.
+fn numbers(s: &Symbol) -> [i64; SYMBOL] {
+    let [y, dy, yk, z, dz, zk] = [s.y, s.dy, s.yk, s.z, s.dz, s.zk].map(|v| v.map(i64::from));
+    let q = s.q.map(i64::from);
+    [
+        s.sample as i64,
+        s.phase.into(),
+        y[0],
+        y[1],
+        dy[0],
+        dy[1],
+        yk[0],
+        yk[1],
+        s.gain.into(),
+        s.period.into(),
+        z[0],
+        z[1],
+        dz[0],
+        dz[1],
+        zk[0],
+        zk[1],
+        q[0],
+        q[1],
+        s.e.into(),
+        s.err.into(),
+    ]
+}
