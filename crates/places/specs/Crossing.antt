@@ -7,7 +7,7 @@ use lib.ListN.{length, getD}
 use lib.IntN.{ℤ, pos}
 use Rattle.params.specs.declared.Params.{Params}
 use Rattle.state.specs.declared.Frontend.{Frontend}
-use Rattle.state.specs.Start.{noPair, noPending}
+use Rattle.state.specs.Start.{ringPlaces, noPair, noPending}
 use Rattle.kinds.specs.Kinds.{u8, u32, i16, i32, i64, count, isKind}
 use Rattle.places.specs.Sheet.{sheetNumber, paramsAt, sheetNumbers}
 use Rattle.places.specs.States.{stateFits, stateOf, numbersOf}
@@ -44,10 +44,10 @@ pub record SheetsCross : Type 0 where
 
 -- ---- states
 
--- A state has a line of 64 pairs and a ring of 24 pairs of errors, as its arrays have.
+-- A state has a line of 64 pairs and a ring of as many pairs of errors as it has places, as its arrays have.
 pub record Whole (f : Frontend) : Type 0 where
   pub line : length (f .line) ≡ 64
-  pub pending : length (f .pending) ≡ 24
+  pub pending : length (f .pending) ≡ ringPlaces
 
 -- Its fields are numbers of their types, and its counts small enough for a place.
 pub record Typed (f : Frontend) : Type 0 where

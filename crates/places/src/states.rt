@@ -5,6 +5,7 @@ use registers::Pending;
 use registers::Registers;
 use state::Frontend;
 use state::Pair;
+use state::RING;
 ghost use mathlib.Core.Path.{_≡_};
 ghost use mathlib.Core.Bool.{true};
 ghost use mathlib.Core.List.{_++_};
@@ -74,14 +75,14 @@ fn line_of(state: &[i64]) -> [Pair; 64]
     line
 }
 
-fn pending_of(state: &[i64]) -> [Pending; 24]
+fn pending_of(state: &[i64]) -> [Pending; RING]
     requires { ⌜ stateFits (now state) ≡ true ⌝ }
     ensures { λ r. ⌜ r ≡ pendingOf (take 48 (drop 138 (now (state .entry)))) ⌝ }
 {
     let none = Pending { e: 0, err: 0 };
-    let mut pending = [none; 24];
+    let mut pending = [none; RING];
     let mut n: usize = 0;
-    while n < 24 {
+    while n < RING {
         pending[n] = Pending {
             e: numbers::i32_at(state, 138 + 2 * n),
             err: numbers::i32_at(state, 139 + 2 * n),
@@ -162,12 +163,12 @@ fn write_line(line: [Pair; 64], state: &mut [i64])
     }
 }
 
-fn write_pending(pending: [Pending; 24], state: &mut [i64])
+fn write_pending(pending: [Pending; RING], state: &mut [i64])
     requires { ⌜ length (now state) ≡ 186 ⌝ }
     ensures { λ _. ⌜ now (state .exit) ≡ take 138 (now (state .entry)) ++ pendingNumbers pending ⌝ }
 {
     let mut n: usize = 0;
-    while n < 24 {
+    while n < RING {
         let x = pending[n];
         state[138 + 2 * n] = x.e as i64;
         state[139 + 2 * n] = x.err as i64;

@@ -4,6 +4,7 @@ use registers::Pending;
 use registers::Registers;
 use state::Frontend;
 use state::Pair;
+use state::RING;
 ghost use Prim.Native.Nat.{_<_};
 
 fn registers_of(numbers: &[i64]) -> Registers {
@@ -31,11 +32,11 @@ fn line_of(numbers: &[i64]) -> [Pair; 64] {
     line
 }
 
-fn pending_of(numbers: &[i64]) -> [Pending; 24] {
+fn pending_of(numbers: &[i64]) -> [Pending; RING] {
     let none = Pending { e: 0, err: 0 };
-    let mut pending = [none; 24];
+    let mut pending = [none; RING];
     let mut n: usize = 0;
-    while n < 24 {
+    while n < RING {
         pending[n] = Pending {
             e: arith::narrow_i32(rows::at(numbers, 2 * n)),
             err: arith::narrow_i32(rows::at(numbers, 2 * n + 1)),
@@ -86,9 +87,9 @@ fn is_line(line: [Pair; 64], numbers: &[i64]) -> bool {
     true
 }
 
-fn is_pending(pending: [Pending; 24], numbers: &[i64]) -> bool {
+fn is_pending(pending: [Pending; RING], numbers: &[i64]) -> bool {
     let mut n: usize = 0;
-    while n < 24 {
+    while n < RING {
         let errors = pending[n];
         if !has_pair(numbers, n, errors.e, errors.err) {
             return false;

@@ -9,7 +9,7 @@ use denote.Ref.{now}
 use borrow.Author.Needs.{needs}
 use Rattle.arith.proofs.Bits.{held}
 use Rattle.registers.specs.declared.Pending.{Pending}
-use Rattle.state.specs.Start.{noPending}
+use Rattle.state.specs.Start.{ringPlaces, noPending}
 use Rattle.places.proofs.Readable.{state-long, pair-at}
 use Rattle.places.proofs.Pairs.{Taken, taken-none, taken-next, taken-all}
 use Rattle.places.proofs.states.pending_of.Statement.{statement}
@@ -19,10 +19,10 @@ abbrev pair : ℤ → ℤ → Pending
 pair a b = record { e = a; err = b }
 
 abbrev Inv-loop : tie.InvT-loop
-Inv-loop state pending₀ n₀ pending n = Taken pair noPending 138 139 24 state n pending
+Inv-loop state pending₀ n₀ pending n = Taken pair noPending 138 139 ringPlaces state n pending
 
 abbrev μ-loop : tie.MeasureT-loop
-μ-loop state pending₀ n₀ pending n = 24 - n
+μ-loop state pending₀ n₀ pending n = ringPlaces - n
 
 loop-holds : tie.Need-loop-holds Inv-loop μ-loop
 loop-holds c = taken-none

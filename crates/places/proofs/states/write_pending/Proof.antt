@@ -11,7 +11,7 @@ use mir.Val.{SFits}
 use borrow.Author.Needs.{needs}
 use Rattle.arith.proofs.Bits.{widened}
 use Rattle.registers.specs.declared.Pending.{Pending}
-use Rattle.state.specs.Start.{noPending}
+use Rattle.state.specs.Start.{ringPlaces, noPending}
 use Rattle.places.specs.States.{pendingNumbers}
 use Rattle.places.proofs.Pairs.{Put, put-none, put-next, put-all}
 use Rattle.places.proofs.Widths.{widens-32}
@@ -19,10 +19,10 @@ use Rattle.places.proofs.states.write_pending.Statement.{statement}
 use Rattle.places.proofs.states.write_pending.Tie as tie
 
 abbrev Inv-loop : tie.InvT-loop
-Inv-loop state₀ pending n₀ state n = Put (λ (x : Pending). x .e) (λ (x : Pending). x .err) 138 139 24 pending state₀ n state
+Inv-loop state₀ pending n₀ state n = Put (λ (x : Pending). x .e) (λ (x : Pending). x .err) 138 139 ringPlaces pending state₀ n state
 
 abbrev μ-loop : tie.MeasureT-loop
-μ-loop state₀ pending n₀ state n = 24 - n
+μ-loop state₀ pending n₀ state n = ringPlaces - n
 
 loop-holds : tie.Need-loop-holds Inv-loop μ-loop
 loop-holds c = put-none

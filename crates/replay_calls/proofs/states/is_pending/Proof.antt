@@ -1,14 +1,15 @@
--- `replay_calls::states::is_pending` is safe and ends: each turn compares one more pair of the 24.
+-- `replay_calls::states::is_pending` is safe and ends: each turn compares one more pair of the ring.
 use Prim.Native.Nat.{_≤_, _-_}
 use borrow.Author.Needs.{needs}
+use Rattle.state.specs.Start.{ringPlaces}
 use Rattle.replay_calls.proofs.states.is_pending.Statement.{statement}
 use Rattle.replay_calls.proofs.states.is_pending.Tie as tie
 
 abbrev Inv-loop : tie.InvT-loop
-Inv-loop numbers pending n₀ n = n ≤ 24
+Inv-loop numbers pending n₀ n = n ≤ ringPlaces
 
 abbrev μ-loop : tie.MeasureT-loop
-μ-loop numbers pending n₀ n = 24 - n
+μ-loop numbers pending n₀ n = ringPlaces - n
 
 loop-holds : tie.Need-loop-holds Inv-loop μ-loop
 loop-holds c = search needs

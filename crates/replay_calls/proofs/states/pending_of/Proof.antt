@@ -1,16 +1,17 @@
--- `replay_calls::states::pending_of` is safe and ends: each turn fills one more place of the 24.
+-- `replay_calls::states::pending_of` is safe and ends: each turn fills one more place of the ring.
 use Prim.Native.Nat.{_≤_, _-_}
 use mathlib.Core.Path.{_≡_}
 use lib.ListN.{length}
 use borrow.Author.Needs.{needs}
+use Rattle.state.specs.Start.{ringPlaces}
 use Rattle.replay_calls.proofs.states.pending_of.Statement.{statement}
 use Rattle.replay_calls.proofs.states.pending_of.Tie as tie
 
 abbrev Inv-loop : tie.InvT-loop
-Inv-loop numbers pending₀ n₀ pending n = (length pending ≡ 24) × (n ≤ 24)
+Inv-loop numbers pending₀ n₀ pending n = (length pending ≡ ringPlaces) × (n ≤ ringPlaces)
 
 abbrev μ-loop : tie.MeasureT-loop
-μ-loop numbers pending₀ n₀ pending n = 24 - n
+μ-loop numbers pending₀ n₀ pending n = ringPlaces - n
 
 loop-holds : tie.Need-loop-holds Inv-loop μ-loop
 loop-holds c = search needs
