@@ -7,11 +7,11 @@ use mathlib.Core.Bool.{true}
 use Rattle.params.specs.Judge.{Sheet}
 use Rattle.registers.specs.Step.{afterSymbol}
 use Rattle.state.specs.declared.Frontend.{Frontend}
-use Rattle.fixed.specs.Queue.{isFull, oldestErrors}
+use Rattle.fixed.specs.Queue.{oldestDue, oldestErrors}
 use Rattle.fixed.specs.Sample.{withSymbol, falls}
 use Rattle.state.specs.Check.{goodState}
 
 abbrev pub OneStep : Type 0
 OneStep =
     (s : Sheet) (f : Frontend) → goodState (s .params) f ≡ true → falls f ≡ true → f .samples < 18446744073709551615
-    → afterSymbol (s .params) (f .registers) (isFull (s .params) f) (oldestErrors f) ≡ record { registers = withSymbol s f .registers; made = true }
+    → afterSymbol (s .params) (f .registers) (oldestDue (s .params) f) (oldestErrors f) ≡ record { registers = withSymbol s f .registers; made = true }

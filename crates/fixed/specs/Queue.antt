@@ -11,8 +11,8 @@ use Rattle.state.specs.declared.Frontend.{Frontend}
 use Rattle.state.specs.Start.{ringPlaces, noPending}
 
 -- As many wait as the loop's delay, so the oldest are due.
-abbrev pub isFull : Params → Frontend → Bool
-isFull p f = isDue (p .delay) (f .waiting)
+abbrev pub oldestDue : Params → Frontend → Bool
+oldestDue p f = isDue (p .delay) (f .waiting)
 
 -- The errors that wait longest.
 abbrev pub oldestErrors : Frontend → Pending
@@ -24,7 +24,7 @@ queuedErrors f w = set (f .pending) ((f .oldest + f .waiting) % ringPlaces) w
 
 -- Where the oldest then stand, and how many wait: as many as before where the oldest left.
 abbrev pub nextOldest : Params → Frontend → ℕ
-nextOldest p f = cond (isFull p f) ((f .oldest + 1) % ringPlaces) (f .oldest)
+nextOldest p f = cond (oldestDue p f) ((f .oldest + 1) % ringPlaces) (f .oldest)
 
 abbrev pub nextWaiting : Params → Frontend → ℕ
-nextWaiting p f = cond (isFull p f) (f .waiting) (f .waiting + 1)
+nextWaiting p f = cond (oldestDue p f) (f .waiting) (f .waiting + 1)

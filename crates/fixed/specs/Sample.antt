@@ -17,7 +17,7 @@ use Rattle.state.specs.declared.Frontend.{Frontend}
 use Rattle.fixed.specs.Mix.{mixed, nextNco}
 use Rattle.fixed.specs.Line.{nextHead}
 use Rattle.fixed.specs.Filter.{filtered}
-use Rattle.fixed.specs.Queue.{isFull, oldestErrors, queuedErrors, nextOldest, nextWaiting}
+use Rattle.fixed.specs.Queue.{oldestDue, oldestErrors, queuedErrors, nextOldest, nextWaiting}
 
 -- ---- steps 1 and 2
 
@@ -41,7 +41,7 @@ joined s f x =
 
 -- The registers as the symbol finds them: where as many errors wait as the loop's delay, the oldest are applied first.
 unfoldable pub due : Params → Frontend → Registers
-due p f = found p (f .registers) (isFull p f) (oldestErrors f)
+due p f = found p (f .registers) (oldestDue p f) (oldestErrors f)
 
 -- The symbol that falls due in this state, once the sample has joined the line: its phase is the sixty-fourth of the sample that the time says.
 -- (RULES 3.5)

@@ -8,7 +8,7 @@ use registers::Pending;
 use registers::Registers;
 use state::Pair;
 use state::Position;
-use state::RING;
+use state::RING_PLACES;
 use symbol::Symbol;
 ghost use mathlib.Core.Path.{_≡_};
 ghost use mathlib.Core.Bool.{cond};
@@ -34,12 +34,12 @@ pub(crate) fn unpack_line(line: [Pair; 64], taps: usize, i: &mut [u32], q: &mut 
     }
 }
 
-pub(crate) fn unpack_pending(pending: [Pending; RING], e: &mut [i32], err: &mut [i32])
+pub(crate) fn unpack_pending(pending: [Pending; RING_PLACES], e: &mut [i32], err: &mut [i32])
     requires { ⌜ (length (now e) ≡ ringPlaces) × (length (now err) ≡ ringPlaces) ⌝ }
     ensures { λ _. ⌜ Queued (now (e .exit)) (now (err .exit)) pending ⌝ }
 {
     let mut n: usize = 0;
-    while n < RING {
+    while n < RING_PLACES {
         let m = pending[n];
         let a = m.e;
         let b = m.err;
@@ -66,13 +66,17 @@ pub(crate) fn pack_line(line: [Pair; 64], taps: usize, i: &[u32], q: &[u32]) -> 
     packed
 }
 
-pub(crate) fn pack_pending(pending: [Pending; RING], e: &[i32], err: &[i32]) -> [Pending; RING]
+pub(crate) fn pack_pending(
+    pending: [Pending; RING_PLACES],
+    e: &[i32],
+    err: &[i32],
+) -> [Pending; RING_PLACES]
     requires { ⌜ (length (now e) ≡ ringPlaces) × (length (now err) ≡ ringPlaces) ⌝ }
     ensures { λ r. ⌜ Queued (now (e .entry)) (now (err .entry)) r ⌝ }
 {
     let mut packed = pending;
     let mut n: usize = 0;
-    while n < RING {
+    while n < RING_PLACES {
         packed[n] = Pending {
             e: e[n],
             err: err[n],

@@ -1,7 +1,7 @@
 // The waiting errors, a ring: while a block runs, timing errors and gain errors are an array each.
 use registers::Pending;
 use state::Position;
-use state::RING;
+use state::RING_PLACES;
 ghost use mathlib.Core.Path.{_≡_};
 ghost use mathlib.Core.Bool.{cond};
 ghost use Prim.Native.Nat.{_+_, _*_, _%_, _≤_, _<_};
@@ -15,10 +15,10 @@ fn in_ring(at: usize) -> usize
     requires { ⌜ at < 2 * ringPlaces ⌝ }
     ensures { λ r. ⌜ r ≡ at % ringPlaces ⌝ }
 {
-    if at < RING {
+    if at < RING_PLACES {
         return at;
     }
-    at - RING
+    at - RING_PLACES
 }
 
 // The errors that wait longest.

@@ -53,15 +53,6 @@ pub fn most_of(kind: u8) -> i64
     0x7fff_ffff_ffff_ffff
 }
 
-fn is_kind(kind: u8, v: i64) -> bool
-    ensures { λ r. ⌜ r ≡ isKind kind v ⌝ }
-{
-    if v < least_of(kind) {
-        return false;
-    }
-    v <= most_of(kind)
-}
-
 fn both(a: bool, b: bool) -> bool
     ensures { λ r. ⌜ r ≡ (a && b) ⌝ }
 {
@@ -69,6 +60,13 @@ fn both(a: bool, b: bool) -> bool
         return b;
     }
     false
+}
+
+// Both ends are tested, whatever the first test says: with no branch between them the loop below is short enough for the compiler to unroll.
+fn is_kind(kind: u8, v: i64) -> bool
+    ensures { λ r. ⌜ r ≡ isKind kind v ⌝ }
+{
+    both(least_of(kind) <= v, v <= most_of(kind))
 }
 
 // Whether there is a place for each kind, with a number of it. A number of another kind does not end the loop: the compiler unrolls it for a sheet's 18

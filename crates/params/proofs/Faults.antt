@@ -10,7 +10,8 @@ use lib.ListN.{getD}
 use lib.IntN.{ℤ}
 use Rattle.params.specs.declared.Params.{Params}
 use Rattle.params.specs.declared.ParamError.{ParamError}
-use Rattle.params.specs.declared.ParamError.the-variants.{Taps, BankLength, Coefficient, CoefficientSum, DetectorTaps, PeriodBounds, Range, AgcShift, Delay}
+use Rattle.params.specs.declared.ParamError.the-variants.{Taps, BankLength, Coefficient, CoefficientSum, DetectorTaps}
+use Rattle.params.specs.declared.ParamError.the-variants.{PeriodBounds, Range, AgcShift, Delay}
 use Rattle.params.specs.declared.Verdict.{Verdict}
 use Rattle.params.specs.declared.Verdict.the-variants.{Refused}
 use Rattle.params.specs.Refusal.{Refusal, nothing, errorRefusal, verdictRefusal, unless, firstOf}

@@ -125,7 +125,7 @@ impl Params {
         if !is_within(self.ki_shift as u32, 0, 40) {
             return Verdict::Refused(ParamError::Range { field: 7 });
         }
-        if 63 < self.agc_shift {
+        if !is_within(self.agc_shift as u32, 0, 63) {
             return Verdict::Refused(ParamError::AgcShift);
         }
         if !is_within(self.delay as u32, 1, 24) {

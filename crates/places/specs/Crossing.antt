@@ -44,7 +44,7 @@ pub record SheetsCross : Type 0 where
 
 -- ---- states
 
--- A state has a line of 64 pairs and a ring of as many pairs of errors as it has places, as its arrays have.
+-- A state has a line of 64 pairs and a ring of `ringPlaces` pairs of errors, as its arrays have.
 pub record Whole (f : Frontend) : Type 0 where
   pub line : length (f .line) ≡ 64
   pub pending : length (f .pending) ≡ ringPlaces

@@ -5,7 +5,7 @@ use registers::Pending;
 use registers::Registers;
 use state::Frontend;
 use state::Pair;
-use state::RING;
+use state::RING_PLACES;
 ghost use mathlib.Core.Path.{_≡_};
 ghost use mathlib.Core.Bool.{true};
 ghost use mathlib.Core.List.{_++_};
@@ -75,14 +75,14 @@ fn line_of(state: &[i64]) -> [Pair; 64]
     line
 }
 
-fn pending_of(state: &[i64]) -> [Pending; RING]
+fn pending_of(state: &[i64]) -> [Pending; RING_PLACES]
     requires { ⌜ stateFits (now state) ≡ true ⌝ }
     ensures { λ r. ⌜ r ≡ pendingOf (take 48 (drop 138 (now (state .entry)))) ⌝ }
 {
     let none = Pending { e: 0, err: 0 };
-    let mut pending = [none; RING];
+    let mut pending = [none; RING_PLACES];
     let mut n: usize = 0;
-    while n < RING {
+    while n < RING_PLACES {
         pending[n] = Pending {
             e: numbers::i32_at(state, 138 + 2 * n),
             err: numbers::i32_at(state, 139 + 2 * n),
@@ -163,12 +163,12 @@ fn write_line(line: [Pair; 64], state: &mut [i64])
     }
 }
 
-fn write_pending(pending: [Pending; RING], state: &mut [i64])
+fn write_pending(pending: [Pending; RING_PLACES], state: &mut [i64])
     requires { ⌜ length (now state) ≡ 186 ⌝ }
     ensures { λ _. ⌜ now (state .exit) ≡ take 138 (now (state .entry)) ++ pendingNumbers pending ⌝ }
 {
     let mut n: usize = 0;
-    while n < RING {
+    while n < RING_PLACES {
         let x = pending[n];
         state[138 + 2 * n] = x.e as i64;
         state[139 + 2 * n] = x.err as i64;

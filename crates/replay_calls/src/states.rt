@@ -4,7 +4,7 @@ use registers::Pending;
 use registers::Registers;
 use state::Frontend;
 use state::Pair;
-use state::RING;
+use state::RING_PLACES;
 ghost use Prim.Native.Nat.{_<_};
 
 fn registers_of(numbers: &[i64]) -> Registers {
@@ -32,11 +32,11 @@ fn line_of(numbers: &[i64]) -> [Pair; 64] {
     line
 }
 
-fn pending_of(numbers: &[i64]) -> [Pending; RING] {
+fn pending_of(numbers: &[i64]) -> [Pending; RING_PLACES] {
     let none = Pending { e: 0, err: 0 };
-    let mut pending = [none; RING];
+    let mut pending = [none; RING_PLACES];
     let mut n: usize = 0;
-    while n < RING {
+    while n < RING_PLACES {
         pending[n] = Pending {
             e: arith::narrow_i32(rows::at(numbers, 2 * n)),
             err: arith::narrow_i32(rows::at(numbers, 2 * n + 1)),
@@ -87,9 +87,9 @@ fn is_line(line: [Pair; 64], numbers: &[i64]) -> bool {
     true
 }
 
-fn is_pending(pending: [Pending; RING], numbers: &[i64]) -> bool {
+fn is_pending(pending: [Pending; RING_PLACES], numbers: &[i64]) -> bool {
     let mut n: usize = 0;
-    while n < RING {
+    while n < RING_PLACES {
         let errors = pending[n];
         if !has_pair(numbers, n, errors.e, errors.err) {
             return false;

@@ -26,7 +26,7 @@ goodState p f =
     && leb (p .«period_min») (r .period) && leb (r .period) (p .«period_max») && leb (r .«gain_acc») 16777215
     && eqb (f .waiting) (min (r .symbols) (p .delay)) && ltb (f .oldest) ringPlaces && leb (r .symbols) (f .samples)
 
--- 1 to 9, of a sheet and a state.
+-- 1 to 8, 29, then 9, of a sheet and a state.
 abbrev pub stateFaults : Sheet → Frontend → List Refusal
 stateFaults s f = faults s ++ unless (goodState (s .params) f) (refusal 9 [])
 
@@ -39,7 +39,7 @@ sizeFaults f values places =
     ∷ unless (leb (f .samples + values / 2) 9223372036854775807) (refusal 12 [])
     ∷ [])
 
--- 1 to 12, of a block of so many.
+-- 1 to 8, 29, then 9 to 12, of a block of so many.
 unfoldable pub blockFaults : Sheet → Frontend → ℕ → ℕ → List Refusal
 blockFaults s f values places = stateFaults s f ++ sizeFaults f values places
 

@@ -16,7 +16,7 @@ pub record Read : Type 0 where
   pub gain : ℕ
   pub symbols : ℕ
 
--- Period, gain and symbol count of a state; 1 to 9 refuse it, with zeros.
+-- Period, gain and symbol count of a state; 1 to 8, 29 and 9 refuse it, with zeros.
 unfoldable pub readOf : Sheet → Frontend → Read
 readOf s f =
     let r : Refusal = firstOf (stateFaults s f) in

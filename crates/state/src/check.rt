@@ -1,8 +1,8 @@
-// What a call refuses of a state, and of a block's sizes: 1 to 12, in this order.
+// What a call refuses of a state, and of a block's sizes: 1 to 8, 29, 9, then 10 to 12, in this order.
 use crate::Frontend;
 use crate::FrontendVerdict;
 use crate::Position;
-use crate::RING;
+use crate::RING_PLACES;
 use params::Params;
 use params::Verdict;
 use registers::Registers;
@@ -31,7 +31,7 @@ fn is_good_state(p: Params, r: Registers, w: Position) -> bool
         && r.period <= p.period_max
         && r.gain_acc <= 0xff_ffff
         && w.waiting == waiting
-        && w.oldest < RING
+        && w.oldest < RING_PLACES
         && r.symbols <= w.samples
 }
 
@@ -48,7 +48,7 @@ impl Frontend {
         }
     }
 
-    // 1 to 9.
+    // 1 to 8, 29, then 9.
     pub(crate) fn check_state(self, p: Params, h: &[i32], g: &[i32], k: &[i32]) -> FrontendVerdict
         ensures { λ r. ⌜ frontendRefusal r ≡ firstOf (stateFaults (sheetOf p (now (h .entry)) (now (g .entry)) (now (k .entry))) self) ⌝ }
     {
@@ -63,7 +63,7 @@ impl Frontend {
         FrontendVerdict::Accepted
     }
 
-    // 1 to 12, of a block with so many sample values and output places.
+    // 1 to 8, 29, then 9 to 12, of a block with so many sample values and output places.
     pub fn check_block(
         self,
         p: Params,

@@ -11,7 +11,7 @@ ghost use mathlib.Core.Path.{_≡_};
 ghost use Rattle.state.specs.Check.{frontendRefusal};
 
 // Places of the ring in which errors wait, at every delay: as many as the longest delay takes.
-pub const RING: usize = 24;
+pub const RING_PLACES: usize = 24;
 
 // A sample, as it is mixed and kept in the line: in phase and in quadrature.
 pub struct Pair {
@@ -26,7 +26,7 @@ pub struct Frontend {
     pub line: [Pair; 64],
     pub head: usize,
     // The waiting errors, a ring: the oldest's position and how many wait, at most the sheet's delay.
-    pub pending: [Pending; RING],
+    pub pending: [Pending; RING_PLACES],
     pub oldest: usize,
     pub waiting: usize,
     // Samples taken so far.

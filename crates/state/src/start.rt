@@ -1,7 +1,7 @@
 // Starting: the state before the first sample.
 use crate::Frontend;
 use crate::Pair;
-use crate::RING;
+use crate::RING_PLACES;
 use crate::Started;
 use params::Params;
 use params::Verdict;
@@ -30,7 +30,7 @@ impl Frontend {
             registers,
             line: [pair; 64],
             head: 0,
-            pending: [pending; RING],
+            pending: [pending; RING_PLACES],
             oldest: 0,
             waiting: 0,
             samples: 0,

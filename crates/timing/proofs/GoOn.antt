@@ -20,7 +20,7 @@ use Rattle.fixed.specs.Block.{accepted, blockOf}
 use Rattle.timing.specs.Lists.{Call, answer, endState}
 use Rattle.timing.specs.Timing.{StatesGoOn}
 use Rattle.state.proofs.Going.{Going, good}
-use Rattle.timing.proofs.Invariant.{loopDelay, Inv, loopAt-within}
+use Rattle.timing.proofs.Invariant.{sheetDelay, Inv, loopAt-within}
 use Rattle.timing.proofs.Timing.{ends-inv}
 
 -- a state that a run has led to
@@ -29,7 +29,7 @@ going s a f S i = record {
   head = i .head;
   whole = i .whole;
   soon = omega arith;
-  loop = rw (i .loop) (loopAt-within s a S (loopDelay s));
+  loop = rw (i .loop) (loopAt-within s a S (sheetDelay s));
   waiting = rw (i .symbols) (i .waiting);
   oldest = omega arith;
   few = omega arith;

@@ -30,8 +30,9 @@ use Rattle.registers.proofs.Loops.{Loop, loopOf, corrected-moves, Within}
 use Rattle.timing.proofs.Errors.{total, total-append, errors, errorsOf, errors-append, length-errors, movedBy, movedBy-snoc, freshLoop, loop-within}
 
 module _ (s : Sheet) where
-  abbrev pub loopDelay : ℕ
-  loopDelay = s .params .delay
+  -- how many symbols later errors act
+  abbrev pub sheetDelay : ℕ
+  sheetDelay = s .params .delay
 
   -- the loop after the errors of all but the newest `late` of the symbols S
   abbrev pub loopAt : List Symbol → ℕ → Loop
@@ -42,11 +43,11 @@ module _ (s : Sheet) where
     pub whole : f .registers .«t_acc» ≡ pos (time f)
     pub sum : f .samples * 16777216 + time f ≡ total S
     pub rest : time f < 67108863
-    pub loop : loopOf (f .registers) ≡ loopAt S loopDelay
+    pub loop : loopOf (f .registers) ≡ loopAt S sheetDelay
     pub size : length (f .pending) ≡ ringPlaces
-    pub waiting : f .waiting ≡ min (length S) loopDelay
-    pub oldest : f .oldest ≡ (length S - loopDelay) % ringPlaces
-    pub queue : (j : ℕ) → j < length S → length S ≤ j + loopDelay → getD (f .pending) (j % ringPlaces) noPending ≡ getD (errors S) j noPending
+    pub waiting : f .waiting ≡ min (length S) sheetDelay
+    pub oldest : f .oldest ≡ (length S - sheetDelay) % ringPlaces
+    pub queue : (j : ℕ) → j < length S → length S ≤ j + sheetDelay → getD (f .pending) (j % ringPlaces) noPending ≡ getD (errors S) j noPending
     pub few : length S ≤ f .samples
     pub head : f .head < s .params .taps
 
@@ -54,8 +55,8 @@ module _ (s : Sheet) where
   pub record Placed (S : List Symbol) (y : Symbol) : Type 0 where
     pub place : y .sample * 64 + y .phase ≡ total S / 262144
     pub phase : y .phase < 64
-    pub period : y .period ≡ loopAt S (loopDelay - 1) .period
-    pub gain : y .gain ≡ loopAt S (loopDelay - 1) .gain / 256
+    pub period : y .period ≡ loopAt S (sheetDelay - 1) .period
+    pub gain : y .gain ≡ loopAt S (sheetDelay - 1) .gain / 256
 
   -- the same of each symbol of a list that comes after S
   abbrev pub Each : List Symbol → List Symbol → Type 0
@@ -80,7 +81,7 @@ module _ (s : Sheet) where
       sum = refl;
       rest = omega arith;
       loop =
-          let none : 0 ≡ 0 - loopDelay = omega arith in
+          let none : 0 ≡ 0 - sheetDelay = omega arith in
           ap (λ (n : ℕ). movedBy (s .params) (freshLoop (s .params)) (take n (errors []))) none;
       size = refl;
       waiting = omega arith;
@@ -132,29 +133,29 @@ module _ (s : Sheet) where
     -- ---- a sample with one
 
     -- the loop as a symbol finds it: after the errors of all but the newest before it, one fewer than the delay
-    due-loop : (f : Frontend) (S : List Symbol) → Inv f S → loopOf (due (s .params) f) ≡ loopAt S (loopDelay - 1)
+    due-loop : (f : Frontend) (S : List Symbol) → Inv f S → loopOf (due (s .params) f) ≡ loopAt S (sheetDelay - 1)
     unfolding due found
-    due-loop f S i = go (isDue loopDelay (f .waiting)) refl
+    due-loop f S i = go (isDue sheetDelay (f .waiting)) refl
       where
         p : Params
         p = s .params
 
         n : ℕ
-        n = length S - loopDelay
+        n = length S - sheetDelay
 
         oldest : Pending
         oldest = getD (f .pending) (f .oldest) noPending
 
-        go : (b : Bool) → isDue loopDelay (f .waiting) ≡ b → loopOf (due (s .params) f) ≡ loopAt S (loopDelay - 1)
+        go : (b : Bool) → isDue sheetDelay (f .waiting) ≡ b → loopOf (due (s .params) f) ≡ loopAt S (sheetDelay - 1)
         go true e =
-            let c : f .waiting ≡ loopDelay = eqb-true (f .waiting) loopDelay e in
+            let c : f .waiting ≡ sheetDelay = eqb-true (f .waiting) sheetDelay e in
             let q : oldest ≡ getD (errors S) n noPending = rw (i .oldest) (i .queue n (omega arith) (omega arith)) in
-            let m : length S - (loopDelay - 1) ≡ suc n = omega arith in
+            let m : length S - (sheetDelay - 1) ≡ suc n = omega arith in
             rw (e, corrected-moves p (f .registers) oldest, i .loop, q, m, take-suc (errors S) n noPending (omega (arith, length-errors S)))
             (sym (movedBy-snoc p (freshLoop p) (take n (errors S)) (getD (errors S) n noPending)))
         go false e =
-            let c : f .waiting ≢ loopDelay = eqb-false (f .waiting) loopDelay e in
-            let q : n ≡ length S - (loopDelay - 1) = omega arith in
+            let c : f .waiting ≢ sheetDelay = eqb-false (f .waiting) sheetDelay e in
+            let q : n ≡ length S - (sheetDelay - 1) = omega arith in
             rw (e, i .loop, q)
 
     pub loopAt-within : (S : List Symbol) (late : ℕ) → Within (s .params) (loopAt S late)
@@ -174,16 +175,16 @@ module _ (s : Sheet) where
     slot f S i = omega arith
 
     -- a symbol more leaves the errors that are due as they were
-    loopAt-snoc : (S : List Symbol) (y : Symbol) → loopAt (S ++ (y ∷ [])) loopDelay ≡ loopAt S (loopDelay - 1)
+    loopAt-snoc : (S : List Symbol) (y : Symbol) → loopAt (S ++ (y ∷ [])) sheetDelay ≡ loopAt S (sheetDelay - 1)
     unfolding errors
     loopAt-snoc S y =
-        let m : length (S ++ (y ∷ [])) - loopDelay ≡ length S - (loopDelay - 1) = omega (arith, length-append S (y ∷ [])) in
-        rw (m, errors-append S (y ∷ []), take-append-le (length S - (loopDelay - 1)) (errors S) (errorsOf y ∷ []) (omega (arith, length-errors S)))
+        let m : length (S ++ (y ∷ [])) - sheetDelay ≡ length S - (sheetDelay - 1) = omega (arith, length-append S (y ∷ [])) in
+        rw (m, errors-append S (y ∷ []), take-append-le (length S - (sheetDelay - 1)) (errors S) (errorsOf y ∷ []) (omega (arith, length-errors S)))
 
     -- the ring, a symbol on
     queue-snoc : (l : List Pending) (S : List Symbol) (w : Pending) → length l ≡ ringPlaces
-        → ((j : ℕ) → j < length S → length S ≤ j + loopDelay → getD l (j % ringPlaces) noPending ≡ getD (errors S) j noPending)
-        → (j : ℕ) → j < length S + 1 → length S + 1 ≤ j + loopDelay
+        → ((j : ℕ) → j < length S → length S ≤ j + sheetDelay → getD l (j % ringPlaces) noPending ≡ getD (errors S) j noPending)
+        → (j : ℕ) → j < length S + 1 → length S + 1 ≤ j + sheetDelay
         → getD (set l (length S % ringPlaces) w) (j % ringPlaces) noPending ≡ getD (errors S ++ (w ∷ [])) j noPending
     queue-snoc l S w z q j u v = go (eqb j (length S)) refl
       where
@@ -202,19 +203,20 @@ module _ (s : Sheet) where
             )
             (q j (omega arith) (omega arith))
 
-    waiting-next : (n c : ℕ) → c ≡ min n loopDelay → cond (isDue loopDelay c) c (c + 1) ≡ min (n + 1) loopDelay
-    waiting-next n c h = go (isDue loopDelay c) refl
+    waiting-next : (n c : ℕ) → c ≡ min n sheetDelay → cond (isDue sheetDelay c) c (c + 1) ≡ min (n + 1) sheetDelay
+    waiting-next n c h = go (isDue sheetDelay c) refl
       where
-        go : (e : Bool) → isDue loopDelay c ≡ e → cond (isDue loopDelay c) c (c + 1) ≡ min (n + 1) loopDelay
-        go true e = rw e (omega (arith, eqb-true c loopDelay e))
-        go false e = let d : c ≢ loopDelay = eqb-false c loopDelay e in rw e (omega arith)
+        go : (e : Bool) → isDue sheetDelay c ≡ e → cond (isDue sheetDelay c) c (c + 1) ≡ min (n + 1) sheetDelay
+        go true e = rw e (omega (arith, eqb-true c sheetDelay e))
+        go false e = let d : c ≢ sheetDelay = eqb-false c sheetDelay e in rw e (omega arith)
 
-    oldest-next : (n c o : ℕ) → c ≡ min n loopDelay → o ≡ (n - loopDelay) % ringPlaces → cond (isDue loopDelay c) ((o + 1) % ringPlaces) o ≡ (n + 1 - loopDelay) % ringPlaces
-    oldest-next n c o h l = go (isDue loopDelay c) refl
+    oldest-next : (n c o : ℕ) → c ≡ min n sheetDelay → o ≡ (n - sheetDelay) % ringPlaces
+        → cond (isDue sheetDelay c) ((o + 1) % ringPlaces) o ≡ (n + 1 - sheetDelay) % ringPlaces
+    oldest-next n c o h l = go (isDue sheetDelay c) refl
       where
-        go : (e : Bool) → isDue loopDelay c ≡ e → cond (isDue loopDelay c) ((o + 1) % ringPlaces) o ≡ (n + 1 - loopDelay) % ringPlaces
-        go true e = rw e (omega (arith, eqb-true c loopDelay e))
-        go false e = let d : c ≢ loopDelay = eqb-false c loopDelay e in rw e (omega arith)
+        go : (e : Bool) → isDue sheetDelay c ≡ e → cond (isDue sheetDelay c) ((o + 1) % ringPlaces) o ≡ (n + 1 - sheetDelay) % ringPlaces
+        go true e = rw e (omega (arith, eqb-true c sheetDelay e))
+        go false e = let d : c ≢ sheetDelay = eqb-false c sheetDelay e in rw e (omega arith)
 
     total-snoc : (f : Frontend) (S : List Symbol) → total (S ++ (symbolOf s f ∷ [])) ≡ total S + due (s .params) f .period
     unfolding total symbolOf symbolFrom
@@ -224,7 +226,7 @@ module _ (s : Sheet) where
     time-on : (f : Frontend) (S : List Symbol) → Inv f S
         → due (s .params) f .«t_acc» +ℤ pos (due (s .params) f .period) -ℤ one ≡ pos (time f + due (s .params) f .period - 16777216)
     time-on f S i =
-        let w : Within (s .params) (loopOf (due (s .params) f)) = rw (due-loop f S i) (loopAt-within S (loopDelay - 1)) in
+        let w : Within (s .params) (loopOf (due (s .params) f)) = rw (due-loop f S i) (loopAt-within S (sheetDelay - 1)) in
         ap (λ (z : ℤ). z +ℤ pos (due (s .params) f .period) -ℤ one) (due-time (s .params) f ∙ i .whole)
         ∙ minus-nat (time f + due (s .params) f .period) 16777216 (omega (arith, a .periods))
 
@@ -234,7 +236,7 @@ module _ (s : Sheet) where
         let y : Symbol = symbolOf s f in
         let r : Registers = due (s .params) f in
         let len : length (S ++ (y ∷ [])) ≡ length S + 1 = length-append S (y ∷ []) in
-        let w : Within (s .params) (loopOf r) = rw (due-loop f S i) (loopAt-within S (loopDelay - 1)) in
+        let w : Within (s .params) (loopOf r) = rw (due-loop f S i) (loopAt-within S (sheetDelay - 1)) in
         let t = time-on f S i in
         let n : natAbs (r .«t_acc» +ℤ pos (r .period) -ℤ one) ≡ time f + r .period - 16777216 = ap natAbs t in
         record {

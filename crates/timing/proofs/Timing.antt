@@ -33,7 +33,7 @@ use Rattle.timing.proofs.Calls.{calls-state, calls-written, calls-count
 use Rattle.registers.proofs.Loops.{Loop}
 use Rattle.timing.proofs.Errors.{total, total-append, total-suc, errors, errors-take, movedBy, freshLoop}
 use Rattle.state.proofs.Going.{time}
-use Rattle.timing.proofs.Invariant.{loopDelay, loopAt, Inv, Placed, each-at, fresh-inv, loopAt-within, run-inv, run-placed}
+use Rattle.timing.proofs.Invariant.{sheetDelay, loopAt, Inv, Placed, each-at, fresh-inv, loopAt-within, run-inv, run-placed}
 
 abbrev noOutput : Output
 noOutput = record { i = pos 0; q = pos 0 }
@@ -90,7 +90,7 @@ module _ (s : Sheet) (a : Accepted s) where
   period-within : (xs : List Pair) (k : ℕ) → k < length (run xs)
       → (s .params .«period_min» ≤ at (run xs) k .period) × (at (run xs) k .period ≤ s .params .«period_max»)
   period-within xs k h =
-      let w = loopAt-within s a (take k (run xs)) (loopDelay s - 1) in
+      let w = loopAt-within s a (take k (run xs)) (sheetDelay s - 1) in
       rw (placed xs k h .period) (w .low, w .high)
 
   near : (xs : List Pair) (k : ℕ) → suc k < length (run xs)
@@ -151,31 +151,31 @@ module _ (s : Sheet) (a : Accepted s) where
 
   -- the loop at symbol k, by the symbols whose errors it uses
   loop-of-take : (Y : List Symbol) (k : ℕ) → k ≤ length Y
-      → loopAt s (take k Y) (loopDelay s - 1) ≡ movedBy (s .params) (freshLoop (s .params)) (errors (take (k - (loopDelay s - 1)) Y))
+      → loopAt s (take k Y) (sheetDelay s - 1) ≡ movedBy (s .params) (freshLoop (s .params)) (errors (take (k - (sheetDelay s - 1)) Y))
   loop-of-take Y k h = rw (
     length-take-le k Y h,
     errors-take k Y,
-    errors-take (k - (loopDelay s - 1)) Y,
-    take-take (k - (loopDelay s - 1)) k (errors Y) (omega arith),
+    errors-take (k - (sheetDelay s - 1)) Y,
+    take-take (k - (sheetDelay s - 1)) k (errors Y) (omega arith),
   )
 
   -- as many symbols ahead as the delay each uses only the errors of symbols that are the same
   module _ (xs ys : List Pair) (i : ℕ) (front : take (suc i) (run xs) ≡ take (suc i) (run ys)) where
-    loop-alike : (k : ℕ) → k ≤ i + loopDelay s → k < length (run xs) → k < length (run ys)
-        → loopAt s (take k (run xs)) (loopDelay s - 1) ≡ loopAt s (take k (run ys)) (loopDelay s - 1)
+    loop-alike : (k : ℕ) → k ≤ i + sheetDelay s → k < length (run xs) → k < length (run ys)
+        → loopAt s (take k (run xs)) (sheetDelay s - 1) ≡ loopAt s (take k (run ys)) (sheetDelay s - 1)
     loop-alike k h x y =
         loop-of-take (run xs) k (omega arith)
         ∙ ap (λ (l : List Symbol). movedBy (s .params) (freshLoop (s .params)) (errors l))
-        (take-less (k - (loopDelay s - 1)) (suc i) (run xs) (run ys) (omega arith) front)
+        (take-less (k - (sheetDelay s - 1)) (suc i) (run xs) (run ys) (omega arith) front)
         ∙ sym (loop-of-take (run ys) k (omega arith))
 
-    period-alike : (k : ℕ) → k ≤ i + loopDelay s → k < length (run xs) → k < length (run ys) → at (run xs) k .period ≡ at (run ys) k .period
+    period-alike : (k : ℕ) → k ≤ i + sheetDelay s → k < length (run xs) → k < length (run ys) → at (run xs) k .period ≡ at (run ys) k .period
     period-alike k h x y = placed xs k x .period ∙ ap (λ (l : Loop). l .period) (loop-alike k h x y) ∙ sym (placed ys k y .period)
 
-    gain-alike : (k : ℕ) → k ≤ i + loopDelay s → k < length (run xs) → k < length (run ys) → at (run xs) k .gain ≡ at (run ys) k .gain
+    gain-alike : (k : ℕ) → k ≤ i + sheetDelay s → k < length (run xs) → k < length (run ys) → at (run xs) k .gain ≡ at (run ys) k .gain
     gain-alike k h x y = placed xs k x .gain ∙ ap (λ (l : Loop). l .gain / 256) (loop-alike k h x y) ∙ sym (placed ys k y .gain)
 
-    total-alike : (k : ℕ) → k ≤ i + loopDelay s → k < length (run xs) → k < length (run ys) → total (take k (run xs)) ≡ total (take k (run ys))
+    total-alike : (k : ℕ) → k ≤ i + sheetDelay s → k < length (run xs) → k < length (run ys) → total (take k (run xs)) ≡ total (take k (run ys))
     total-alike zero h x y = refl
     total-alike (suc k) h x y =
         omega (
@@ -186,7 +186,7 @@ module _ (s : Sheet) (a : Accepted s) where
           total-alike k (omega arith) (omega arith) (omega arith),
         )
 
-    place-alike : (k : ℕ) → k ≤ i + loopDelay s → k < length (run xs) → k < length (run ys)
+    place-alike : (k : ℕ) → k ≤ i + sheetDelay s → k < length (run xs) → k < length (run ys)
         → (at (run xs) k .sample ≡ at (run ys) k .sample) × (at (run xs) k .phase ≡ at (run ys) k .phase)
     place-alike k h x y =
         let u = placed xs k x in
@@ -285,10 +285,10 @@ module _ (s : Sheet) (ok : startOf s .refused ≡ nothing) where
 
   -- ---- two lists
 
-  delay : (cs ds : List Call) (i n : ℕ) → i < symbolCount s cs → sampleAt (placesWritten s cs) i ≡ pos n → AgreeUpTo n (samplesOf s cs) (samplesOf s ds)
+  delayed : (cs ds : List Call) (i n : ℕ) → i < symbolCount s cs → sampleAt (placesWritten s cs) i ≡ pos n → AgreeUpTo n (samplesOf s cs) (samplesOf s ds)
       → Delayed s cs ds i
   unfolding runOf
-  delay cs ds i n h e g =
+  delayed cs ds i n h e g =
       let xs = samplesOf s cs in
       let ys = samplesOf s ds in
       let Y : List Symbol = run s a xs in
@@ -304,7 +304,7 @@ module _ (s : Sheet) (ok : startOf s .refused ≡ nothing) where
             ∙ getD-take (suc i) Z k noSymbol (omega arith) in
             rw (wrote cs, wrote ds, place-at Y k j (omega arith) q, place-at Z k j (omega arith) q, same);
         ahead = λ k b u v.
-            let near : k ≤ i + loopDelay s = omega arith in
+            let near : k ≤ i + sheetDelay s = omega arith in
             let x : k < length Y = rw (counts cs) at u in
             let z : k < length Z = rw (counts ds) at v in
             let both = place-alike s a xs ys i front k near x z in
@@ -330,6 +330,6 @@ timing-holds s ok = record {
   place = place s ok;
   apart = apart s ok;
   rest = rest s ok;
-  delay = delay s ok;
+  delayed = delayed s ok;
   cuts = cuts s ok;
 }

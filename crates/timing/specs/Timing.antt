@@ -96,8 +96,9 @@ pub record Timing (s : Sheet) : Type 0 where
   pub place : (cs : List Call) (k : ℕ) → k < symbolCount s cs → Place s cs k
   pub apart : (cs : List Call) (k : ℕ) → k + 1 < symbolCount s cs → Apart s cs k
   pub rest : (cs : List Call) → Rest s cs
-  -- errors act as many symbols later as the sheet's delay and never sooner: the two lists' samples agree up to symbol i's own in the first, whatever comes later
-  pub delay : (cs ds : List Call) (i n : ℕ) → i < symbolCount s cs → sampleAt (placesWritten s cs) i ≡ pos n
+  -- errors act as many symbols later as the sheet's delay says and never sooner: the two lists' samples agree up to symbol i's own in the first, whatever comes
+  -- later
+  pub delayed : (cs ds : List Call) (i n : ℕ) → i < symbolCount s cs → sampleAt (placesWritten s cs) i ≡ pos n
       → AgreeUpTo n (samplesOf s cs) (samplesOf s ds) → Delayed s cs ds i
   -- how the samples are cut into blocks, and what was refused between them, changes nothing
   pub cuts : (cs ds : List Call) → samplesOf s cs ≡ samplesOf s ds → SameRun s cs ds

@@ -1,12 +1,14 @@
 -- `params::Params::check_fields` meets its contract: it makes the definition's tests in the definition's order.
 -- Past each test, the first of the faults that are left is the first of all.
 use Prim.Native.Nat.{ℕ}
-use mathlib.Core.Path.{_≡_, sym, _∙_}
-use lib.Dec.{lit<}
+use mathlib.Core.Path.{_≡_, sym, ap, _∙_}
+use mathlib.Core.Bool.{Bool, _&&_}
+use native.Mathlib.Omega.{arith}
+use lib.Dec.{leb, lit<}
 use lib.IntN.{pos}
 use lib.ListN.{drop}
 use borrow.Author.Needs.{needs}
-use borrow.Author.Tests.{not-true, not-false, le-leb, lt-leb}
+use borrow.Author.Tests.{not-true, not-false, le-leb}
 use mir.Syntax.{w8, w32}
 use mir.Facts.{fits-widen}
 use Rattle.arith.proofs.Bits.{held}
@@ -122,25 +124,34 @@ self9 c = self8 (c .before .before .before)
 past9 : (c : tie.Else9) {r : Refusal} → Left (self9 c) 9 r → Left (self9 c) 0 r
 past9 c f = past8 (c .before .before .before) (keeps _ (sym (c .before .is-within7 .ensures) ∙ not-false _ (c .if9 .left)) f)
 
+-- a number has no least end to keep
+no-least : (v most : ℕ) → leb v most ≡ (leb 0 v && leb v most)
+no-least v most = ap (λ (b : Bool). b && leb v most) (sym (le-leb 0 v (omega arith)))
+
 returns-10 : tie.Need-returns-10
 unfolding fieldFaults
-returns-10 c = let f : First _ _ = past9 (c .before .before) (breaks (lit< tt) (lt-leb _ _ (c .if10 .taken))) in f .is
+returns-10 c =
+    let e = c .before .before .before in
+    let f : First _ _ =
+    past9 e (breaks (lit< tt) (no-least (self9 e .«agc_shift») 63 ∙ sym (c .before .is-within8 .ensures) ∙ not-true _ (c .if10 .taken))) in f .is
 
 abbrev self10 : tie.Else10 → Params
-self10 c = self9 (c .before .before)
+self10 c = self9 (c .before .before .before)
 
 past10 : (c : tie.Else10) {r : Refusal} → Left (self10 c) 10 r → Left (self10 c) 0 r
-past10 c f = past9 (c .before .before) (keeps _ (le-leb _ _ (c .if10 .left)) f)
+past10 c f =
+    let e = c .before .before .before in
+    past9 e (keeps _ (no-least (self9 e .«agc_shift») 63 ∙ sym (c .before .is-within8 .ensures) ∙ not-false _ (c .if10 .left)) f)
 
 returns-11 : tie.Need-returns-11
 unfolding fieldFaults goodDelay
 returns-11 c = let f : First _ _ =
-    past10 (c .before .before .before) (breaks (lit< tt) (sym (c .before .is-within8 .ensures) ∙ not-true _ (c .if11 .taken))) in f .is
+    past10 (c .before .before .before) (breaks (lit< tt) (sym (c .before .is-within9 .ensures) ∙ not-true _ (c .if11 .taken))) in f .is
 
 returns-12 : tie.Need-returns-12
 unfolding fieldFaults goodDelay
 returns-12 c = let f : First _ _ =
-    past10 (c .before .before .before) (keeps _ (sym (c .before .is-within8 .ensures) ∙ not-false _ (c .if11 .left)) none) in f .is
+    past10 (c .before .before .before) (keeps _ (sym (c .before .is-within9 .ensures) ∙ not-false _ (c .if11 .left)) none) in f .is
 
 -- ---- what the calls and casts ask for
 
@@ -190,10 +201,16 @@ is-within-requires-7 : tie.Need-is-within-requires-7
 is-within-requires-7 c κs = search needs
 
 cast-is-within-7 : tie.Need-cast-is-within-7
-cast-is-within-7 c = fits-widen {w = w8} tt (c .struct-known8 .given .1 .1 .1 .1 .1 .1 .1 .1 .1 .1 .1 .1 .1 .1 .1 .1 .1 .0)
+cast-is-within-7 c = fits-widen {w = w8} tt (c .struct-known7 .given .1 .1 .1 .1 .1 .1 .1 .1 .1 .1 .1 .1 .1 .0)
 
 is-within-requires-8 : tie.Need-is-within-requires-8
 is-within-requires-8 c κs = search needs
+
+cast-is-within-8 : tie.Need-cast-is-within-8
+cast-is-within-8 c = fits-widen {w = w8} tt (c .struct-known8 .given .1 .1 .1 .1 .1 .1 .1 .1 .1 .1 .1 .1 .1 .1 .1 .1 .1 .0)
+
+is-within-requires-9 : tie.Need-is-within-requires-9
+is-within-requires-9 c κs = search needs
 
 pub check-fields-spec : {M : Type 1} → statement M
 check-fields-spec =
@@ -223,8 +240,10 @@ check-fields-spec =
     cast-is-within-6
     is-within-requires-7
     returns-9
-    returns-10
     cast-is-within-7
     is-within-requires-8
+    returns-10
+    cast-is-within-8
+    is-within-requires-9
     returns-11
     returns-12)
