@@ -5,6 +5,8 @@ set -eu
 cd "$(dirname "$0")/.."
 : "${RT:=rt}" "${ISDB_RS:=../shared/docs/src}" "${WRITE:=}"
 export ISDB_RS
+# isdb-rs is measured as it is, with its own loop delay.
+unset LOOP_DELAY
 work=target/bench
 command -v cargo >/dev/null || { echo "bench: cargo is not here, so isdb-rs cannot be built and there is nothing to measure beside"; exit 1; }
 [ -f "$ISDB_RS/crates/isdb-frontend/src/fixed.rs" ] || { echo "bench: ISDB_RS is to be the path to isdb-rs, commit 754ed06c49"; exit 1; }

@@ -15,6 +15,9 @@ const OLDEST: usize = 7;
 const WAITING: usize = 8;
 const PENDING: usize = 138;
 
+/// The delay's place in a sheet.
+const DELAY: usize = 17;
+
 /// Pairs of errors for which the ring has room, at every delay.
 const RING: usize = 24;
 
@@ -197,7 +200,7 @@ fn a_state_under_another_delay() {
             let waiting = |delay: u8| state[SYMBOLS].min(delay.into());
             for other in 1..=24 {
                 let mut places = p.places();
-                places[17] = other.into();
+                places[DELAY] = other.into();
                 let sheet = lent(&p, &places);
                 let number = match waiting(other) == waiting(delay) {
                     true => 0,

@@ -117,7 +117,7 @@ impl Call {
                 0 => self.spoil_length(r),
                 1 => self.spoil_field(r),
                 2 => {
-                    let spoiled = generate::spoiled_by_delay_too(r, fields.clone());
+                    let spoiled = generate::spoiled(r, fields.clone());
                     self.sheet = Sheet::from(&spoiled);
                 }
                 3 => self.spoil_bank(r),

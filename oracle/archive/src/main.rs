@@ -39,7 +39,7 @@ fn main() -> ExitCode {
 
 /// A sheet, a run on it, and changed states after it.
 fn one_run(tally: &mut Tally, r: &mut Random) {
-    let kind = r.pick(&["designed", "designed", "extreme", "small", "short"]);
+    let kind = r.pick(&["designed", "designed", "extreme", "small"]);
     let (fields, mut samples) =
         generate::sheet_with_samples(kind, r).expect("a kind of sheet that there is");
     let pairs = r.pick(&[100, 2000, 10_000, 30_000]);

@@ -21,8 +21,6 @@ pub struct Run<'a> {
     fields: &'a Fields,
     sheet: Sheet,
     front: Front<'a>,
-    /// What `front` made of the last block.
-    symbols: Vec<i64>,
     state: Lent<i64>,
     tally: &'a mut Tally,
     r: &'a mut Random,
@@ -41,7 +39,6 @@ impl<'a> Run<'a> {
             fields,
             sheet,
             front,
-            symbols: Vec::new(),
             state,
             tally,
             r,
@@ -83,15 +80,13 @@ impl<'a> Run<'a> {
             .sheet
             .lent()
             .block(self.state.places(), values, output.places());
-        self.front.process(block, &mut self.symbols);
-        let made = self.symbols.len() / SYMBOL;
+        let symbols = self.front.process(block);
+        let made = symbols.len() / SYMBOL;
         self.tally.samples += block.len() as u64;
         self.tally.symbols += made as u64;
         self.tally.answer(
             "a block of a run",
-            count == made as i64
-                && output.begins_with(&self.symbols)
-                && self.state.is_kept_around(),
+            count == made as i64 && output.begins_with(&symbols) && self.state.is_kept_around(),
         );
     }
 

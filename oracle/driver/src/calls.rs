@@ -7,21 +7,17 @@ use crate::rows::Rows;
 use crate::sheet::Sheet;
 use std::io::{self, Write};
 
-/// Sheets of a kind with every eighth a new one, and those between the last new one with faults. Small ones keep their delay.
+/// Sheets of a kind with every eighth a new one, and those between the last new one with faults.
 pub fn write(kind: &str, seed: u64, count: u64, output: &mut impl Write) -> io::Result<()> {
     let mut r = Random::new(seed);
     let mut rows = Rows::new(output);
     let mut base = Sheet::default();
-    let spoiled = match kind {
-        "small" => generate::spoiled,
-        _ => generate::spoiled_by_delay_too,
-    };
     for n in 0..count {
         if n % 8 == 0 {
             base = generate::sheet(kind, &mut r)?;
             calls(&mut rows, &base, &mut r)?;
         } else {
-            calls(&mut rows, &spoiled(&mut r, base.clone()), &mut r)?;
+            calls(&mut rows, &generate::spoiled(&mut r, base.clone()), &mut r)?;
         }
     }
     Ok(())

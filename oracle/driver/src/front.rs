@@ -11,12 +11,11 @@ use isdb_frontend::params::LOOP_DELAY;
 pub const DELAY: u8 = LOOP_DELAY as u8;
 
 /// isdb-rs's front end. Its queue lets go of errors that are applied, and a state (RULES 3.1) keeps them until their place
-/// is written again; so what the symbols report of their errors is kept beside it.
+/// is written again; so what the symbols report of their errors is kept beside it. Who asks for no places may run the front
+/// end itself.
 pub struct Rust {
-    front: Frontend,
+    pub front: Frontend,
     errors: Errors,
-    /// The symbols of the last block.
-    symbols: Vec<Symbol>,
 }
 
 impl Rust {
@@ -26,20 +25,18 @@ impl Rust {
         runs.then(|| Self {
             front: Frontend::new(sheet.params()).expect("a sheet that was judged"),
             errors: [[0, 0]; RING],
-            symbols: Vec::new(),
         })
     }
 
-    /// Runs a block and gives the numbers of its symbols in place of those that were there.
-    pub fn process(&mut self, pairs: &[[i16; 2]], output: &mut Vec<i64>) {
+    /// Runs a block and gives the numbers of its symbols.
+    pub fn process(&mut self, pairs: &[[i16; 2]]) -> Vec<i64> {
         let before = self.front.symbols() as usize;
-        self.symbols.clear();
-        self.front.process(pairs, &mut self.symbols);
-        for (j, symbol) in (before..).zip(&self.symbols) {
+        let mut symbols = Vec::new();
+        self.front.process(pairs, &mut symbols);
+        for (j, symbol) in (before..).zip(&symbols) {
             self.errors[j % RING] = [symbol.e.into(), symbol.err.into()];
         }
-        output.clear();
-        output.extend(self.symbols.iter().flat_map(numbers));
+        symbols.iter().flat_map(numbers).collect()
     }
 
     pub fn state(&self) -> State {
@@ -76,16 +73,16 @@ impl<'a> Front<'a> {
         }
     }
 
-    /// Runs a block and gives the numbers of its symbols in place of those that were there.
-    pub fn process(&mut self, pairs: &[[i16; 2]], output: &mut Vec<i64>) {
+    /// Runs a block and gives the numbers of its symbols.
+    pub fn process(&mut self, pairs: &[[i16; 2]]) -> Vec<i64> {
         match self {
-            Self::Rust(rust) => rust.process(pairs, output),
+            Self::Rust(rust) => rust.process(pairs),
             Self::Read(run) => {
                 let (reading, state) = &mut **run;
                 let block = reading.block(state, pairs.as_flattened(), SYMBOL * pairs.len());
                 assert_eq!(block.refusal, [], "a block of a run");
                 *state = block.state;
-                *output = block.output;
+                block.output
             }
         }
     }
@@ -107,7 +104,7 @@ impl<'a> Front<'a> {
 }
 
 /// A symbol's numbers, in the order of its places.
-fn numbers(s: &Symbol) -> [i64; SYMBOL] {
+pub fn numbers(s: &Symbol) -> [i64; SYMBOL] {
     let [y, dy, yk, z, dz, zk] = [s.y, s.dy, s.yk, s.z, s.dz, s.zk].map(|v| v.map(i64::from));
     let q = s.q.map(i64::from);
     [

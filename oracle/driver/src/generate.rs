@@ -21,17 +21,21 @@ pub fn sheets(kind: &str, seed: u64, count: u64, output: &mut impl Write) -> io:
     Ok(())
 }
 
-/// A sheet of any delay. Only a small one has always that of designs: what is stored of small sheets stays as it is.
+/// A sheet of a kind, of any delay.
 pub fn sheet(kind: &str, r: &mut Random) -> io::Result<Sheet> {
-    let mut sheet = match one_kind(kind, r) {
-        "small" => return Ok(small(r)),
-        "short" => small(r),
+    let kind = one_kind(kind, r);
+    let mut sheet = match kind {
         "designed" => designed(r).0,
         "extreme" => extreme(r),
-        "refused" => return Ok(refused(r)),
+        "small" => small(r),
+        "refused" if r.one_in(8) => designed(r).0,
+        "refused" => extreme(r),
         _ => return Err(usage(&format!("{kind} is no kind of sheet"))),
     };
     sheet.delay = any_delay(r);
+    if kind == "refused" {
+        sheet = spoiled(r, sheet);
+    }
     Ok(sheet)
 }
 
@@ -43,20 +47,20 @@ fn one_kind<'a>(kind: &'a str, r: &mut Random) -> &'a str {
     }
 }
 
-/// A sheet with samples to run it on: a signal of its design where it has one, noise of the full range else, and for a
-/// quarter of the designed ones too. Half of the designed ones have the delay of isdb-rs.
+/// A sheet with samples to run it on: three designed ones in four have a signal of their design, all others noise of the
+/// full range. Half are given the delay of isdb-rs, which runs no other, and the rest any; a delay that is refused stays.
 pub fn sheet_with_samples(kind: &str, r: &mut Random) -> io::Result<(Sheet, Samples)> {
-    match one_kind(kind, r) {
-        "designed" if !r.one_in(4) => {
-            let (mut sheet, samples) = designed_with_signal(r);
-            sheet.delay = match r.below(2) {
-                0 => front::DELAY,
-                _ => any_delay(r),
-            };
-            Ok((sheet, samples))
-        }
-        kind => Ok((sheet(kind, r)?, Samples::noise())),
+    let (mut sheet, samples) = match one_kind(kind, r) {
+        "designed" if !r.one_in(4) => designed_with_signal(r),
+        kind => (sheet(kind, r)?, Samples::noise()),
+    };
+    if DELAYS.contains(&sheet.delay) {
+        sheet.delay = match r.one_in(2) {
+            true => front::DELAY,
+            false => any_delay(r),
+        };
     }
+    Ok((sheet, samples))
 }
 
 fn designed_with_signal(r: &mut Random) -> (Sheet, Samples) {
@@ -204,7 +208,8 @@ fn designed(r: &mut Random) -> (Sheet, Design) {
     }
 }
 
-/// An accepted sheet with each field at an end of its range, or anywhere within.
+/// An accepted sheet with each field at an end of its range, or anywhere within; only the delay is isdb-rs's own, as in
+/// recordings, and `sheet` sets it.
 fn extreme(r: &mut Random) -> Sheet {
     let taps = 4 + 2 * r.below(31) as u32;
     let taps = if r.one_in(2) {
@@ -304,35 +309,8 @@ fn extreme_row(r: &mut Random, taps: usize, detector: bool) -> Vec<i32> {
     row
 }
 
-/// A sheet with one fault or several.
-fn refused(r: &mut Random) -> Sheet {
-    let mut sheet = if r.one_in(8) {
-        designed(r).0
-    } else {
-        extreme(r)
-    };
-    sheet.delay = any_delay(r);
-    spoiled_by_delay_too(r, sheet)
-}
-
-/// The sheet with faults of every kind: the delay's alone, together with an agc_shift next to its bound so that their order
-/// shows, behind other faults, and other faults alone.
-pub fn spoiled_by_delay_too(r: &mut Random, mut sheet: Sheet) -> Sheet {
-    let alone = match r.below(8) {
-        0 | 1 => true,
-        2 => false,
-        _ => return spoiled(r, sheet),
-    };
-    let past = DELAYS.end() + 1;
-    sheet.delay = r.pick(&[0, 0, 1, past - 1, past, past, past + 1, 64, 254, 255]);
-    if r.one_in(3) {
-        sheet.agc_shift = r.pick(&[63, 64, 255]);
-    }
-    if alone { sheet } else { spoiled(r, sheet) }
-}
-
-/// The sheet with one fault or several, the delay left as it is, each next to the boundary that it breaks. A few are
-/// accepted after all: the boundary itself is among the values.
+/// The sheet with one fault or several, each next to the boundary that it breaks. A few are accepted after all: the
+/// boundary itself is among the values.
 pub fn spoiled(r: &mut Random, mut sheet: Sheet) -> Sheet {
     if sheet.judge().first().is_some_and(|number| *number <= 2) {
         return sheet;
@@ -366,7 +344,7 @@ fn wrong_length(r: &mut Random, sheet: &mut Sheet) {
 fn fault(r: &mut Random, sheet: &mut Sheet) {
     let taps = sheet.taps as usize;
     let (one, four) = (1u32 << 24, 1u32 << 26);
-    match r.below(8) {
+    match r.below(9) {
         0 => {
             let (bank, at) = (
                 r.below(3) as usize,
@@ -419,6 +397,13 @@ fn fault(r: &mut Random, sheet: &mut Sheet) {
             ])
         }
         6 => sheet.agc_shift = r.pick(&[63, 64, 255]),
+        7 => {
+            sheet.delay = r.pick(&[0, 0, 1, 24, 25, 25, 26, 64, 254, 255]);
+            // judged just before the delay, so that their order shows
+            if r.one_in(3) {
+                sheet.agc_shift = r.pick(&[63, 64, 255]);
+            }
+        }
         _ => match r.below(8) {
             0 => sheet.bits = r.pick(&[0, 1, 2, 8, 9, 255]),
             1 => sheet.q_shift = r.pick(&[15, 16, 255]),

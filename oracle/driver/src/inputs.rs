@@ -334,7 +334,7 @@ fn judged() -> Vec<Sheet> {
 
 pub fn random(r: &mut Random) -> io::Result<Vec<u8>> {
     let kind = r.pick(&[
-        "small", "small", "short", "extreme", "extreme", "designed", "refused",
+        "small", "small", "small", "extreme", "extreme", "designed", "refused",
     ]);
     let (sheet, mut samples) = generate::sheet_with_samples(kind, r)?;
     let pairs: Vec<[i16; 2]> = (0..many(r)).map(|_| samples.next(r)).collect();

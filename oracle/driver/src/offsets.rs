@@ -5,7 +5,7 @@ use crate::generate::{self, ends};
 use crate::random::Random;
 use crate::reading::Reading;
 use crate::rows::Rows;
-use crate::sheet::{DELAYS, Sheet};
+use crate::sheet::Sheet;
 use std::io::{self, Write};
 
 /// Sheets with the same banks and delay: the row of a bank is as long as those of a hundred offsets.
@@ -25,7 +25,6 @@ pub fn write(seed: u64, count: u64, output: &mut impl Write) -> io::Result<()> {
     for n in 0..count {
         if n % SHARED == 0 {
             sheet = generate::sheet("small", &mut r)?;
-            sheet.delay = delay(n / SHARED);
         }
         if n % 8 == 7 {
             move_nominal(&mut r, &mut sheet);
@@ -36,12 +35,6 @@ pub fn write(seed: u64, count: u64, output: &mut impl Write) -> io::Result<()> {
         offsets(&mut rows, &sheet, &asked)?;
     }
     Ok(())
-}
-
-/// The delays in turn, from the longest on. No offset depends on them.
-fn delay(group: u64) -> u8 {
-    let longest = *DELAYS.end();
-    longest - (group % u64::from(longest)) as u8
 }
 
 fn offsets(rows: &mut Rows<impl Write>, sheet: &Sheet, asked: &[u32]) -> io::Result<()> {

@@ -38,8 +38,6 @@ struct Run<'a, 'b, W> {
     rows: &'a mut Rows<'b, W>,
     /// isdb-rs's front end; there is none under a sheet that is refused.
     front: Option<Rust>,
-    /// What it made of the last block.
-    symbols: Vec<i64>,
     reading: Reading<'a>,
     /// The state that the reading handed back last.
     state: State,
@@ -54,7 +52,6 @@ impl<'a, 'b, W: Write> Run<'a, 'b, W> {
             state: reading.start(),
             rows,
             front: Rust::start(sheet),
-            symbols: Vec::new(),
             reading,
         };
         run.tell_state()?;
@@ -101,8 +98,8 @@ impl<'a, 'b, W: Write> Run<'a, 'b, W> {
         if let Some(front) = &mut self.front
             && block.refusal.is_empty()
         {
-            front.process(values.as_chunks().0, &mut self.symbols);
-            same("symbols", &self.symbols, &block.output)?;
+            let symbols = front.process(values.as_chunks().0);
+            same("symbols", &symbols, &block.output)?;
         }
         self.rows.block(places, &block)?;
         self.state = block.state;

@@ -1,11 +1,12 @@
 //! The symbol program over isdb-rs's front end: a sheet, its banks and pairs as text in, symbols as text out. Under a delay
 //! other than isdb-rs's the reading of docs/RULES.md stands in for it.
 
-use crate::front::Front;
+use crate::front::{Front, numbers};
 use crate::random::Random;
 use crate::reading::SYMBOL;
 use crate::sheet::{FIELDS, Sheet, joined};
 use crate::{number, usage};
+use isdb_frontend::fixed::Symbol;
 use std::io::{self, BufRead, Write};
 
 const LONGEST: usize = 1024;
@@ -171,17 +172,28 @@ fn run_pairs<R: BufRead>(
     }
 }
 
-/// Runs the block and writes its symbols.
+/// Runs the block and writes its symbols. `make bench` measures this as a plain program over isdb-rs, so isdb-rs's symbols are
+/// written as they come, and nothing is kept of errors that no longer wait: the end state has no places for them.
 fn flush(
     front: &mut Front,
     block: &mut Vec<[i16; 2]>,
-    symbols: &mut Vec<i64>,
+    symbols: &mut Vec<Symbol>,
     output: &mut impl Write,
 ) -> io::Result<()> {
-    front.process(block, symbols);
-    block.clear();
-    for symbol in symbols.chunks(SYMBOL) {
-        writeln!(output, "{}", joined(symbol))?;
+    match front {
+        Front::Rust(rust) => {
+            symbols.clear();
+            rust.front.process(block, symbols);
+            for symbol in symbols.iter() {
+                writeln!(output, "{}", joined(&numbers(symbol)))?;
+            }
+        }
+        Front::Read(_) => {
+            for symbol in front.process(block).chunks(SYMBOL) {
+                writeln!(output, "{}", joined(symbol))?;
+            }
+        }
     }
+    block.clear();
     Ok(())
 }

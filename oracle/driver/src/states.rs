@@ -14,7 +14,7 @@ const SHARED: u64 = 25;
 /// The most samples that can be counted.
 const LAST: i64 = i64::MAX;
 
-/// States of a kind of sheets. The banks are shared by some; each has another delay, but for small sheets.
+/// States of a kind of sheets. The banks are shared by some; each state has a delay of its own.
 pub fn write(kind: &str, seed: u64, count: u64, output: &mut impl Write) -> io::Result<()> {
     let mut r = Random::new(seed);
     let mut rows = Rows::new(output);
@@ -22,7 +22,7 @@ pub fn write(kind: &str, seed: u64, count: u64, output: &mut impl Write) -> io::
     for n in 0..count {
         if n % SHARED == 0 {
             sheet = generate::sheet(kind, &mut r)?;
-        } else if kind != "small" && DELAYS.contains(&sheet.delay) {
+        } else if DELAYS.contains(&sheet.delay) {
             sheet.delay = generate::any_delay(&mut r);
         }
         rows.sheet(&sheet)?;
