@@ -17,13 +17,14 @@ use Rattle.params.proofs.Accepted.{Accepted}
 use Rattle.registers.specs.declared.Pending.{Pending}
 use Rattle.registers.specs.declared.Registers.{Registers}
 use Rattle.registers.specs.Correct.{corrected}
-use Rattle.registers.specs.Step.{isDue, one, found, left}
+use Rattle.registers.specs.Step.{one, found, left}
 use Rattle.registers.proofs.Loops.{loopOf, corrected-moves, Within, moved-within}
 use Rattle.state.specs.declared.Pair.{Pair}
 use Rattle.state.specs.declared.Frontend.{Frontend}
 use Rattle.state.specs.Start.{ringPlaces, noPending}
 use Rattle.state.proofs.Going.{time, minus-nat, Going}
 use Rattle.fixed.specs.Line.{nextHead}
+use Rattle.fixed.specs.Queue.{oldestDue}
 use Rattle.fixed.specs.Sample.{due, joined, withSymbol, withoutSymbol, falls, next, after}
 
 -- ---- the line's position
@@ -40,17 +41,17 @@ head-below taps head h = go (eqb head 0) refl
 
 pub due-time : (p : Params) (f : Frontend) → due p f .«t_acc» ≡ f .registers .«t_acc»
 unfolding due found corrected
-due-time p f = go (isDue (p .delay) (f .waiting)) refl
+due-time p f = go (oldestDue p f) refl
   where
-    go : (b : Bool) → isDue (p .delay) (f .waiting) ≡ b → due p f .«t_acc» ≡ f .registers .«t_acc»
+    go : (b : Bool) → oldestDue p f ≡ b → due p f .«t_acc» ≡ f .registers .«t_acc»
     go true e = rw e
     go false e = rw e
 
 pub due-symbols : (p : Params) (f : Frontend) → due p f .symbols ≡ f .registers .symbols
 unfolding due found corrected
-due-symbols p f = go (isDue (p .delay) (f .waiting)) refl
+due-symbols p f = go (oldestDue p f) refl
   where
-    go : (b : Bool) → isDue (p .delay) (f .waiting) ≡ b → due p f .symbols ≡ f .registers .symbols
+    go : (b : Bool) → oldestDue p f ≡ b → due p f .symbols ≡ f .registers .symbols
     go true e = rw e
     go false e = rw e
 
@@ -90,7 +91,7 @@ module _ (s : Sheet) (a : Accepted s) where
   -- the loop as a symbol finds it
   pub due-within : (f : Frontend) → Going p f → Within p (loopOf (due p f))
   unfolding due found
-  due-within f g = go (isDue (p .delay) (f .waiting)) refl
+  due-within f g = go (oldestDue p f) refl
     where
       r : Registers
       r = f .registers
@@ -98,7 +99,7 @@ module _ (s : Sheet) (a : Accepted s) where
       w : Pending
       w = getD (f .pending) (f .oldest) noPending
 
-      go : (b : Bool) → isDue (p .delay) (f .waiting) ≡ b → Within p (loopOf (due p f))
+      go : (b : Bool) → oldestDue p f ≡ b → Within p (loopOf (due p f))
       go true e =
           subst (λ (b : Bool). Within p (loopOf (cond b (corrected p r w) r))) (sym e)
           (subst (Within p) (sym (corrected-moves p r w)) (moved-within p (a .periods) (a .fields) (loopOf r) w))
@@ -122,20 +123,21 @@ module _ (s : Sheet) (a : Accepted s) where
         few = omega (arith, due-symbols p f);
       }
     where
-      full : Bool
-      full = isDue (p .delay) (f .waiting)
+      -- the oldest leave the ring
+      leave : Bool
+      leave = oldestDue p f
 
-      queue-long : cond full (f .waiting) (f .waiting + 1) ≡ min (due p f .symbols + 1) (p .delay)
-      queue-long = go full refl
+      queue-long : cond leave (f .waiting) (f .waiting + 1) ≡ min (due p f .symbols + 1) (p .delay)
+      queue-long = go leave refl
         where
-          go : (b : Bool) → full ≡ b → cond full (f .waiting) (f .waiting + 1) ≡ min (due p f .symbols + 1) (p .delay)
+          go : (b : Bool) → leave ≡ b → cond leave (f .waiting) (f .waiting + 1) ≡ min (due p f .symbols + 1) (p .delay)
           go true e = let c = eqb-true (f .waiting) (p .delay) e in rw e (omega (arith, g .waiting, due-symbols p f))
           go false e = let c = eqb-false (f .waiting) (p .delay) e in rw e (omega (arith, g .waiting, due-symbols p f))
 
-      queue-place : cond full ((f .oldest + 1) % ringPlaces) (f .oldest) < ringPlaces
-      queue-place = go full refl
+      queue-place : cond leave ((f .oldest + 1) % ringPlaces) (f .oldest) < ringPlaces
+      queue-place = go leave refl
         where
-          go : (b : Bool) → full ≡ b → cond full ((f .oldest + 1) % ringPlaces) (f .oldest) < ringPlaces
+          go : (b : Bool) → leave ≡ b → cond leave ((f .oldest + 1) % ringPlaces) (f .oldest) < ringPlaces
           go true e = rw e (omega arith)
           go false e = rw e (g .oldest)
 

@@ -116,10 +116,7 @@ impl Call {
             match r.below(10) {
                 0 => self.spoil_length(r),
                 1 => self.spoil_field(r),
-                2 => {
-                    let spoiled = generate::spoiled(r, fields.clone());
-                    self.sheet = Sheet::from(&spoiled);
-                }
+                2 => self.sheet = Sheet::from(&generate::spoiled(r, fields.clone())),
                 3 => self.spoil_bank(r),
                 4 => self.state.resize(r.pick(&[0, 1, 185, 187, 372]), 0),
                 5 => self.spoil_place(r),

@@ -208,8 +208,8 @@ fn designed(r: &mut Random) -> (Sheet, Design) {
     }
 }
 
-/// An accepted sheet with each field at an end of its range, or anywhere within; only the delay is isdb-rs's own, as in
-/// recordings, and `sheet` sets it.
+/// An accepted sheet with each field at an end of its range, or anywhere within. Only the delay is 24, as recordings have it;
+/// `sheet` gives it another.
 fn extreme(r: &mut Random) -> Sheet {
     let taps = 4 + 2 * r.below(31) as u32;
     let taps = if r.one_in(2) {

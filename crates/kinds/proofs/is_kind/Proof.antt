@@ -1,4 +1,5 @@
 -- `kinds::is_kind` meets its contract: the two tests are the definition's, and both are made.
+-- Number and ends have 64 bits, so each is read as itself.
 use mathlib.Core.Path.{_∙_}
 use mathlib.Core.Bool.{_&&_}
 use lib.Signed.{leZ}
