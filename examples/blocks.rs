@@ -49,6 +49,7 @@ fn run(name: &str, output: &mut impl Write) -> Result<(), Box<dyn Error>> {
         let more = recording.read_block(&mut block);
         // What came before a line that cannot be read is printed all the same.
         symbols.clear();
+        // `process` takes the whole block, however long: it lends the archive places itself, and goes on from what each call has taken.
         front
             .process(&block, &mut symbols)
             .map_err(|refusal| recording.fault(refusal))?;

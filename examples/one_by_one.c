@@ -28,7 +28,7 @@ static const char *const refusals[] = {
     "agc_shift is above 63",
     "the state is none of this sheet",
     "an odd number of sample values",
-    "too few places for the symbols",
+    "no room for one symbol, or too few places for the answer",
     "more than 2^63 - 1 samples in all",
     "the period is outside min .. max",
     "the samples a symbol are outside 1.0625 .. 4",
@@ -51,8 +51,8 @@ static int fail(const struct recording *r, const char *what) {
     return 1;
 }
 
-static int refuse(const struct recording *r, const char *what, int64_t number) {
-    fprintf(stderr, "%s:%ld: %s is refused, number %" PRId64 ": %s\n", r->name, r->line, what, number, refusals[number]);
+static int refuse(const struct recording *r, const char *what, uint32_t number) {
+    fprintf(stderr, "%s:%ld: %s is refused, number %" PRIu32 ": %s\n", r->name, r->line, what, number, refusals[number]);
     return 1;
 }
 
@@ -117,34 +117,66 @@ static void print_symbol(const int64_t *symbol) {
     for (n = 0; n < HUNTELM_SYMBOL_PLACES; n++) printf("%" PRId64 "%c", symbol[n], n + 1 < HUNTELM_SYMBOL_PLACES ? ',' : '\n');
 }
 
-static int run(struct recording *r) {
-    static int32_t h[BANK], g[BANK], k[BANK];
-    int64_t sheet[HUNTELM_SHEET_PLACES], state[HUNTELM_STATE_PLACES], symbol[HUNTELM_SYMBOL_PLACES], pair[2];
-    size_t taps, bank;
+/* What every call is lent: a sheet, its banks, so many coefficients each, and the state. */
+struct receiver {
+    int64_t sheet[HUNTELM_SHEET_PLACES], state[HUNTELM_STATE_PLACES];
+    int32_t h[BANK], g[BANK], k[BANK];
+    size_t bank;
+};
+
+/*
+ * Takes all values, I before Q, and prints their symbols. Answers 0, or the number of a refusal.
+ *
+ * A call takes no more pairs than it has room for a symbol each, here one, and says how many these were. So the rest is offered again: whoever supposes that
+ * all was taken loses samples, and no refusal says so. Each call that is not refused takes a pair at least, so the loop ends, however many values there are.
+ */
+static uint32_t take(struct receiver *rx, const int16_t *values, size_t left) {
+    int64_t symbol[HUNTELM_SYMBOL_PLACES], answer[HUNTELM_BLOCK_PLACES];
+    while (left > 0) {
+        uint32_t refused = huntelm_block(rx->sheet, HUNTELM_SHEET_PLACES, rx->h, rx->bank, rx->g, rx->bank, rx->k, rx->bank, rx->state, HUNTELM_STATE_PLACES,
+                                         values, left, symbol, HUNTELM_SYMBOL_PLACES, answer, HUNTELM_BLOCK_PLACES);
+        if (refused) return refused;
+        if (answer[HUNTELM_BLOCK_COUNT] == 1) print_symbol(symbol);
+        values += 2 * answer[HUNTELM_BLOCK_TAKEN];
+        left -= 2 * (size_t)answer[HUNTELM_BLOCK_TAKEN];
+    }
+    return HUNTELM_ACCEPTED;
+}
+
+/* Reads the sheet with its banks and starts. */
+static int start(struct receiver *rx, struct recording *r) {
+    size_t taps;
     uint32_t refused;
-    int found = read_line(r, sheet, HUNTELM_SHEET_PLACES);
+    int found = read_line(r, rx->sheet, HUNTELM_SHEET_PLACES);
     if (found == 0) fail(r, "the file is empty");
-    if (found != 1) return 1;
+    if (found != 1) return 0;
     /* With no banks yet their length is what is refused, unless the line itself is. From here on taps are 4 to 64. */
-    refused = huntelm_judge(sheet, HUNTELM_SHEET_PLACES, NULL, 0, NULL, 0, NULL, 0);
-    if (refused != HUNTELM_REFUSED_BANK_LENGTH) return refuse(r, "the sheet", refused);
-    taps = (size_t)sheet[HUNTELM_SHEET_TAPS];
-    bank = HUNTELM_ROWS * taps;
-    if (!read_bank(r, h, taps) || !read_bank(r, g, taps) || !read_bank(r, k, taps)) return 1;
-    refused = huntelm_start(sheet, HUNTELM_SHEET_PLACES, h, bank, g, bank, k, bank, state, HUNTELM_STATE_PLACES);
-    if (refused) return refuse(r, "the sheet that ends here", refused);
+    refused = huntelm_judge(rx->sheet, HUNTELM_SHEET_PLACES, NULL, 0, NULL, 0, NULL, 0);
+    if (refused != HUNTELM_REFUSED_BANK_LENGTH) return !refuse(r, "the sheet", refused);
+    taps = (size_t)rx->sheet[HUNTELM_SHEET_TAPS];
+    rx->bank = HUNTELM_ROWS * taps;
+    if (!read_bank(r, rx->h, taps) || !read_bank(r, rx->g, taps) || !read_bank(r, rx->k, taps)) return 0;
+    refused = huntelm_start(rx->sheet, HUNTELM_SHEET_PLACES, rx->h, rx->bank, rx->g, rx->bank, rx->k, rx->bank, rx->state, HUNTELM_STATE_PLACES);
+    if (refused) return !refuse(r, "the sheet that ends here", refused);
+    return 1;
+}
+
+static int run(struct recording *r) {
+    static struct receiver rx;
+    int64_t pair[2];
+    int found;
+    if (!start(&rx, r)) return 1;
     while ((found = read_line(r, pair, 2)) == 1) {
         int16_t values[2];
-        int64_t symbols;
+        uint32_t refused;
         if (pair[0] < INT16_MIN || pair[0] > INT16_MAX || pair[1] < INT16_MIN || pair[1] > INT16_MAX) return fail(r, "a sample is outside 16 bits");
         values[0] = (int16_t)pair[0];
         values[1] = (int16_t)pair[1];
-        symbols = huntelm_block(sheet, HUNTELM_SHEET_PLACES, h, bank, g, bank, k, bank, state, HUNTELM_STATE_PLACES, values, 2, symbol, HUNTELM_SYMBOL_PLACES);
-        if (symbols < 0) return refuse(r, "the pair", -symbols);
-        if (symbols == 1) print_symbol(symbol);
+        refused = take(&rx, values, 2);
+        if (refused) return refuse(r, "the pair", refused);
     }
     if (found < 0) return 1;
-    printf("end,%" PRId64 ",%" PRId64 ",%" PRId64 "\n", state[HUNTELM_STATE_SAMPLES], state[HUNTELM_STATE_SYMBOLS], state[HUNTELM_STATE_T]);
+    printf("end,%" PRId64 ",%" PRId64 ",%" PRId64 "\n", rx.state[HUNTELM_STATE_SAMPLES], rx.state[HUNTELM_STATE_SYMBOLS], rx.state[HUNTELM_STATE_T]);
     return 0;
 }
 

@@ -8,9 +8,14 @@
  *   a sheet     18 places, the parameters of a run; a place is an int64_t (enum huntelm_sheet_place)
  *   a bank      64 rows of taps coefficients, row by row; a sheet has three: h and g for the timing detector, k for the output
  *   a state     186 places (enum huntelm_state_place); huntelm_start writes it, huntelm_block takes it further, and nobody else has to look into it
- *   samples     int16_t, I before Q
+ *   samples     int16_t, I before Q: two values are a pair, and a pair is a sample
  *   a symbol    20 places (enum huntelm_symbol_place)
+ *   an answer   the places to which huntelm_read, huntelm_offset and huntelm_block write what they say; a block's are at least 4 (enum huntelm_block_place)
  * Every buffer is a pointer and a length, and a length counts elements, not bytes.
+ *
+ * What a block takes
+ *   As many of the pairs that it is offered as out has room for a symbol each, and it says how many. The others it has not looked at: offer them again, or they
+ *   are lost without a refusal (huntelm_block has the loop).
  *
  * What a period says
  *   The period of one symbol, or of a state, has the loop's correction for one noisy error in it, and jumps by thousands of parts in a million from symbol to
@@ -46,6 +51,7 @@ extern "C" {
 #define HUNTELM_SHEET_PLACES 18
 #define HUNTELM_STATE_PLACES 186
 #define HUNTELM_SYMBOL_PLACES 20
+#define HUNTELM_BLOCK_PLACES 4
 #define HUNTELM_READ_PLACES 3
 #define HUNTELM_RATE_PLACES 5
 #define HUNTELM_FIELD_PLACES 8
@@ -75,8 +81,9 @@ enum huntelm_refusal {
     HUNTELM_REFUSED_STATE = 9,               /* not 186 places, a number that its place does not take, or a position, count or register outside its bounds
                                                 under the sheet */
     HUNTELM_REFUSED_ODD_INPUT = 10,          /* an odd number of sample values, or of floats */
-    HUNTELM_REFUSED_SHORT_OUTPUT = 11,       /* fewer places than the answer may take; of a state at the start that is 9 */
-    HUNTELM_REFUSED_TOO_MANY_SAMPLES = 12,   /* more than 2^63 - 1 samples in all */
+    HUNTELM_REFUSED_SHORT_OUTPUT = 11,       /* fewer places than the answer needs; of out in a block, fewer than the 20 of one symbol where there are samples
+                                                to take. Of a state at the start that is 9 */
+    HUNTELM_REFUSED_TOO_MANY_SAMPLES = 12,   /* more than 2^63 - 1 samples in all, those counted that the block would take */
 
     /* Of an offset. */
     HUNTELM_REFUSED_PERIOD = 13,             /* a period outside period_min .. period_max */
@@ -156,6 +163,12 @@ enum huntelm_state_place {
     HUNTELM_STATE_PENDING = 138 /* from here a ring of 24 pairs e, err, whatever the delay; those that wait stand from the oldest on, and behind 23 comes 0 */
 };
 
+/* What huntelm_block writes to answer. The places behind these two stay as they were; those up to HUNTELM_BLOCK_PLACES are kept free. */
+enum huntelm_block_place {
+    HUNTELM_BLOCK_COUNT = 0, /* symbols that it wrote */
+    HUNTELM_BLOCK_TAKEN = 1  /* pairs that it took, which may be fewer than it was offered */
+};
+
 /* What huntelm_read writes. */
 enum huntelm_read_place {
     HUNTELM_READ_PERIOD = 0, /* the period of the last symbol, 2^24 to the sample; no measure of a clock (see above) */
@@ -200,19 +213,40 @@ uint32_t huntelm_start(const int64_t *sheet, size_t sheet_len, const int32_t *h,
                        int64_t *state, size_t state_len);
 
 /*
- * Takes a block of values_len / 2 samples, I before Q, and takes the state further. Writes 20 places for each symbol to out, one symbol after the other, and
- * leaves the places behind them as they were. Answers how many symbols it wrote, which may be 0, or the number of a refusal below zero.
+ * Takes pairs of values, I before Q, from the first on, and says how many it took: all of them, or as many as out has room for a symbol each. The pairs behind
+ * them were not looked at, and who does not offer them again loses them: no refusal says so. So go on from there. This is right for every out_len from 20 on:
  *
- * A sample gives one symbol at most, and out needs 20 places for each sample, though fewer are written. How samples are cut into blocks changes nothing:
- * one after another they give the same symbols as all at once. Every call judges the sheet, so large blocks cost less a sample.
+ *     int64_t answer[HUNTELM_BLOCK_PLACES];
+ *     while (values_len > 0) {
+ *         uint32_t refused = huntelm_block(sheet, 18, h, n, g, n, k, n, state, HUNTELM_STATE_PLACES, values, values_len, out, out_len,
+ *                                          answer, HUNTELM_BLOCK_PLACES);
+ *         if (refused) return refused;
+ *         use_symbols(out, answer[HUNTELM_BLOCK_COUNT]);
+ *         values += 2 * answer[HUNTELM_BLOCK_TAKEN];
+ *         values_len -= 2 * (size_t)answer[HUNTELM_BLOCK_TAKEN];
+ *     }
+ *
+ * A call that is offered a pair and is not refused takes at least one, so the loop comes to its end. That is proved.
+ *
+ * The call takes values_len / 2 or out_len / 20 pairs, whichever is less, both rounded down. It takes the state further, writes 20 places for each symbol to
+ * out, one symbol after the other, and leaves the places behind them as they were. To answer, which has at least 4 places, it writes how many symbols these are
+ * and how many pairs it took; both may be 0, and the other places stay as they were (enum huntelm_block_place). Answers 0.
+ *
+ * With 20 places for each pair it takes all. With fewer everything is as if it had been lent only the pairs that it takes. A pair gives one symbol at most and
+ * often none, so places may be left; it does not go on until out is full.
+ *
+ * How samples are cut into blocks changes nothing: one after another they give the same symbols as all at once. Every call judges the sheet, so calls that take
+ * many samples cost less a sample: out_len decides that, and not values_len alone.
  *
  * Go on with the sheet and the banks of the start. Under others a state may be refused (9), or taken as one of theirs. Under another delay it is refused
  * unless as many errors wait as that delay asks for (HUNTELM_STATE_WAITING).
  *
- * Refusals, in order: 18, 19, 1 to 8, 29; 9; 10 values_len is odd; 11 out_len / 20 is less than values_len / 2; 12. The state is then as it was.
+ * Refusals, in order: 18, 19, 1 to 8, 29; 9; 10 values_len is odd, also where not all values would be taken; 11 values_len is not 0 and out_len is below 20;
+ * 12 the state's samples and the pairs that it would take are more than 2^63 - 1; 11 answer_len is below 4. State, out and answer are then as they were.
  */
-int64_t huntelm_block(const int64_t *sheet, size_t sheet_len, const int32_t *h, size_t h_len, const int32_t *g, size_t g_len, const int32_t *k, size_t k_len,
-                      int64_t *state, size_t state_len, const int16_t *values, size_t values_len, int64_t *out, size_t out_len);
+uint32_t huntelm_block(const int64_t *sheet, size_t sheet_len, const int32_t *h, size_t h_len, const int32_t *g, size_t g_len, const int32_t *k, size_t k_len,
+                       int64_t *state, size_t state_len, const int16_t *values, size_t values_len, int64_t *out, size_t out_len,
+                       int64_t *answer, size_t answer_len);
 
 /*
  * Writes period, gain and number of symbols of a state to the first three places of answer (enum huntelm_read_place). Answers 0. The period is that of one

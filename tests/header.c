@@ -25,21 +25,27 @@ static int64_t sheet[HUNTELM_SHEET_PLACES];
 static int32_t h[BANK], g[BANK];
 static int64_t state[HUNTELM_STATE_PLACES], kept[HUNTELM_STATE_PLACES];
 
-/* A buffer for answers, every place of which holds a mark; and how many places no longer do. */
-static int64_t out[3 * HUNTELM_SYMBOL_PLACES + 1];
+/* Buffers for symbols and answers, and for what a block says, every place of which holds a mark; and how many places do not. */
+static int64_t out[3 * HUNTELM_SYMBOL_PLACES + 1], answer[HUNTELM_BLOCK_PLACES + 2];
 #define OUT (sizeof out / sizeof *out)
+#define ANSWER (sizeof answer / sizeof *answer)
 #define MARK (-77)
 
 static void mark(void) {
     size_t n;
     for (n = 0; n < OUT; n++) out[n] = MARK;
+    for (n = 0; n < ANSWER; n++) answer[n] = MARK;
+}
+
+static int64_t written_from(const int64_t *places, size_t first, size_t end) {
+    size_t n;
+    int64_t count = 0;
+    for (n = first; n < end; n++) count += places[n] != MARK;
+    return count;
 }
 
 static int64_t written(void) {
-    size_t n;
-    int64_t count = 0;
-    for (n = 0; n < OUT; n++) count += out[n] != MARK;
-    return count;
+    return written_from(out, 0, OUT) + written_from(answer, 0, ANSWER);
 }
 
 static void fill(void) {
@@ -50,6 +56,30 @@ static void fill(void) {
     memset(g, 0, sizeof g);
     for (row = 0; row < HUNTELM_ROWS; row++) h[row * TAPS] = 16384;
     mark();
+}
+
+/* A block on the whole state, with so many places for symbols and so many for what it says. */
+static uint32_t block(const int16_t *values, size_t values_len, size_t out_len, size_t answer_len) {
+    return huntelm_block(FULL, state, HUNTELM_STATE_PLACES, values, values_len, out, out_len, answer, answer_len);
+}
+
+/* A block that is not refused: how many symbols it writes and how many pairs it takes. Places behind the symbols, and behind these two numbers, stay. */
+static void expect_block(const char *what, const int16_t *values, size_t values_len, size_t out_len, int64_t count, int64_t taken) {
+    mark();
+    expect(what, block(values, values_len, out_len, HUNTELM_BLOCK_PLACES), HUNTELM_ACCEPTED);
+    expect(what, answer[HUNTELM_BLOCK_COUNT], count);
+    expect(what, answer[HUNTELM_BLOCK_TAKEN], taken);
+    expect("no place behind the symbols", written_from(out, (size_t)count * HUNTELM_SYMBOL_PLACES, OUT), 0);
+    expect("no place behind the two numbers", written_from(answer, 2, ANSWER), 0);
+}
+
+/* A block that is refused, and leaves state, symbols' places and answer as they were. */
+static void expect_refused(const char *what, const int16_t *values, size_t values_len, size_t out_len, size_t answer_len, int64_t want) {
+    mark();
+    memcpy(kept, state, sizeof kept);
+    expect(what, block(values, values_len, out_len, answer_len), want);
+    expect("it leaves the state", memcmp(state, kept, sizeof kept), 0);
+    expect("and all other places", written(), 0);
 }
 
 /* A sheet with one place changed. */
@@ -119,23 +149,21 @@ static void path(void) {
     expect("starting", huntelm_start(FULL, state, HUNTELM_STATE_PLACES), HUNTELM_ACCEPTED);
     expect("nominal period at the start", state[HUNTELM_STATE_PERIOD], 33554432);
     expect("gain accumulator at the start", state[HUNTELM_STATE_GAIN_ACC], 262144);
-    memcpy(kept, state, sizeof kept);
-    expect("an odd number of values", huntelm_block(FULL, state, HUNTELM_STATE_PLACES, values, 5, out, OUT), -HUNTELM_REFUSED_ODD_INPUT);
-    expect("59 places for three samples", huntelm_block(FULL, state, HUNTELM_STATE_PLACES, values, 6, out, 59), -HUNTELM_REFUSED_SHORT_OUTPUT);
-    expect("a sheet of 17 places", huntelm_block(sheet, 17, h, BANK, g, BANK, h, BANK, state, HUNTELM_STATE_PLACES, values, 6, out, OUT),
-           -HUNTELM_REFUSED_PLACE_COUNT);
+    expect_refused("an odd number of values", values, 5, OUT, ANSWER, HUNTELM_REFUSED_ODD_INPUT);
+    expect_refused("19 places for three samples", values, 6, 19, ANSWER, HUNTELM_REFUSED_SHORT_OUTPUT);
+    expect("a sheet of 17 places", huntelm_block(sheet, 17, h, BANK, g, BANK, h, BANK, state, HUNTELM_STATE_PLACES, values, 6, out, OUT, answer, ANSWER),
+           HUNTELM_REFUSED_PLACE_COUNT);
+    expect("it leaves the state", memcmp(state, kept, sizeof kept), 0);
+    expect("and all other places", written(), 0);
     state[HUNTELM_STATE_T] = -1;
-    expect("a time below 0", huntelm_block(FULL, state, HUNTELM_STATE_PLACES, values, 6, out, OUT), -HUNTELM_REFUSED_STATE);
+    expect_refused("a time below 0", values, 6, OUT, ANSWER, HUNTELM_REFUSED_STATE);
     expect("its reading", huntelm_read(FULL, state, HUNTELM_STATE_PLACES, out, OUT), HUNTELM_REFUSED_STATE);
     state[HUNTELM_STATE_T] = 0;
     state[HUNTELM_STATE_SAMPLES] = INT64_MAX - 2;
-    expect("a sample too many", huntelm_block(FULL, state, HUNTELM_STATE_PLACES, values, 6, out, OUT), -HUNTELM_REFUSED_TOO_MANY_SAMPLES);
+    expect_refused("a sample too many", values, 6, OUT, ANSWER, HUNTELM_REFUSED_TOO_MANY_SAMPLES);
     state[HUNTELM_STATE_SAMPLES] = 0;
-    expect("refused blocks leave the state", memcmp(state, kept, sizeof kept), 0);
-    expect("and the output", written(), 0);
-    expect("a block", huntelm_block(FULL, state, HUNTELM_STATE_PLACES, values, 6, out, OUT), 2);
+    expect_block("a block", values, 6, OUT, 2, 3);
     expect("its symbols", memcmp(out, symbols, sizeof symbols), 0);
-    expect("and no place more", out[40] == MARK && out[OUT - 1] == MARK, 1);
     expect("samples", state[HUNTELM_STATE_SAMPLES], 3);
     expect("time", state[HUNTELM_STATE_T], 16777216);
     expect("where the second fell", out[HUNTELM_SYMBOL_PLACES + HUNTELM_SYMBOL_SAMPLE], 2);
@@ -151,13 +179,140 @@ static void path(void) {
     expect("three places", written(), HUNTELM_READ_PLACES);
 }
 
+/* So many samples, the same each time. */
+#define PAIRS 25
+
+static void noise(int16_t *values) {
+    uint32_t x = 1;
+    size_t n;
+    for (n = 0; n < 2 * PAIRS; n++) {
+        x = 1664525 * x + 1013904223;
+        values[n] = (int16_t)((int32_t)(x >> 20) - 2048);
+    }
+}
+
+static int64_t least(size_t a, size_t b) {
+    return (int64_t)(a < b ? a : b);
+}
+
+/* Offers the values, and then what is left of them, until nothing is, with so many places for symbols. All symbols go to list; answers how many they are. */
+static int64_t run(const int16_t *values, size_t values_len, size_t out_len, int64_t *list) {
+    int64_t symbols = 0;
+    while (values_len > 0) {
+        int64_t taken = least(values_len / 2, out_len / HUNTELM_SYMBOL_PLACES);
+        size_t places;
+        mark();
+        expect("a part", block(values, values_len, out_len, HUNTELM_BLOCK_PLACES), HUNTELM_ACCEPTED);
+        expect("its pairs", answer[HUNTELM_BLOCK_TAKEN], taken);
+        if (answer[HUNTELM_BLOCK_TAKEN] != taken) return -1;
+        places = HUNTELM_SYMBOL_PLACES * (size_t)answer[HUNTELM_BLOCK_COUNT];
+        expect("no place behind its symbols", written_from(out, places, OUT), 0);
+        memcpy(list + HUNTELM_SYMBOL_PLACES * symbols, out, places * sizeof *list);
+        symbols += answer[HUNTELM_BLOCK_COUNT];
+        values += 2 * answer[HUNTELM_BLOCK_TAKEN];
+        values_len -= 2 * (size_t)answer[HUNTELM_BLOCK_TAKEN];
+    }
+    return symbols;
+}
+
+/* However few the places, what is left offered again makes the run of one block with enough of them. */
+static void short_buffers(void) {
+    static int16_t values[2 * PAIRS];
+    static int64_t whole[PAIRS * HUNTELM_SYMBOL_PLACES], parts[PAIRS * HUNTELM_SYMBOL_PLACES], end[HUNTELM_STATE_PLACES];
+    size_t places;
+    noise(values);
+    fill();
+    sheet[HUNTELM_SHEET_DELAY] = 3;
+    expect("starting", huntelm_start(FULL, end, HUNTELM_STATE_PLACES), HUNTELM_ACCEPTED);
+    expect("all at once", huntelm_block(FULL, end, HUNTELM_STATE_PLACES, values, 2 * PAIRS, whole, PAIRS * HUNTELM_SYMBOL_PLACES, answer, ANSWER),
+           HUNTELM_ACCEPTED);
+    expect("its symbols", answer[HUNTELM_BLOCK_COUNT], 13);
+    expect("its pairs", answer[HUNTELM_BLOCK_TAKEN], PAIRS);
+    for (places = HUNTELM_SYMBOL_PLACES; places <= 45; places++) {
+        expect("starting", huntelm_start(FULL, state, HUNTELM_STATE_PLACES), HUNTELM_ACCEPTED);
+        expect("symbols of all parts", run(values, 2 * PAIRS, places, parts), 13);
+        expect("they are those of the whole", memcmp(parts, whole, 13 * HUNTELM_SYMBOL_PLACES * sizeof *parts), 0);
+        expect("and so is the end", memcmp(state, end, sizeof end), 0);
+    }
+}
+
+/* A block of so many pairs with so many places: all is as in a block of the pairs that it takes, whatever the others are. */
+static void expect_first(int16_t *values, size_t pairs, size_t places) {
+    static int64_t symbols[OUT], end[HUNTELM_STATE_PLACES];
+    int64_t taken = least(pairs, places / HUNTELM_SYMBOL_PLACES);
+    size_t n;
+    noise(values);
+    expect("starting", huntelm_start(FULL, state, HUNTELM_STATE_PLACES), HUNTELM_ACCEPTED);
+    expect_block("the pairs that are taken", values, 2 * (size_t)taken, OUT, (taken + 1) / 2, taken);
+    memcpy(symbols, out, sizeof symbols);
+    memcpy(end, state, sizeof end);
+    for (n = 2 * (size_t)taken; n < 2 * PAIRS; n++) values[n] = 32767;
+    expect("starting", huntelm_start(FULL, state, HUNTELM_STATE_PLACES), HUNTELM_ACCEPTED);
+    expect_block("with others behind them", values, 2 * pairs, places, (taken + 1) / 2, taken);
+    expect("the same symbols", memcmp(out, symbols, sizeof symbols), 0);
+    expect("the same state", memcmp(state, end, sizeof end), 0);
+}
+
+static void first_pairs(void) {
+    static int16_t values[2 * PAIRS];
+    size_t pairs, places;
+    fill();
+    for (pairs = 0; pairs <= 4; pairs++) {
+        for (places = 0; places <= OUT; places++) {
+            if (pairs == 0 || places >= HUNTELM_SYMBOL_PLACES) expect_first(values, pairs, places);
+            else expect_refused("no room for a symbol", values, 2 * pairs, places, ANSWER, HUNTELM_REFUSED_SHORT_OUTPUT);
+            expect_refused("one value more", values, 2 * pairs + 1, places, ANSWER, HUNTELM_REFUSED_ODD_INPUT);
+        }
+    }
+}
+
+/* What a block says needs four places, of which the last two stay as they were. */
+static void places_of_the_answer(void) {
+    static const int16_t values[6] = {1000, -1000, 0, 0, -1000, 1000};
+    size_t places;
+    fill();
+    expect("starting", huntelm_start(FULL, state, HUNTELM_STATE_PLACES), HUNTELM_ACCEPTED);
+    for (places = 0; places < HUNTELM_BLOCK_PLACES; places++) {
+        expect_refused("a short answer", values, 6, OUT, places, HUNTELM_REFUSED_SHORT_OUTPUT);
+        expect_refused("a short answer and a short output", values, 6, 20, places, HUNTELM_REFUSED_SHORT_OUTPUT);
+        expect_refused("a short answer of nothing", values, 0, 0, places, HUNTELM_REFUSED_SHORT_OUTPUT);
+    }
+    for (places = HUNTELM_BLOCK_PLACES; places <= ANSWER; places++) {
+        expect("starting", huntelm_start(FULL, state, HUNTELM_STATE_PLACES), HUNTELM_ACCEPTED);
+        mark();
+        expect("an answer that is long enough", block(values, 6, 45, places), HUNTELM_ACCEPTED);
+        expect("symbols", answer[HUNTELM_BLOCK_COUNT], 1);
+        expect("pairs", answer[HUNTELM_BLOCK_TAKEN], 2);
+        expect("two places of the answer", written_from(answer, 0, ANSWER), 2);
+    }
+}
+
+/* 10, then 11 for no room for a symbol, then 12 of the pairs that would be taken, then 11 for a short answer. */
+static void order(void) {
+    static const int16_t values[6] = {1000, -1000, 0, 0, -1000, 1000};
+    fill();
+    expect("starting", huntelm_start(FULL, state, HUNTELM_STATE_PLACES), HUNTELM_ACCEPTED);
+    state[HUNTELM_STATE_SAMPLES] = INT64_MAX;
+    expect_refused("10 before 11 and 12", values, 3, 19, 0, HUNTELM_REFUSED_ODD_INPUT);
+    expect_refused("11 before 12", values, 2, 19, ANSWER, HUNTELM_REFUSED_SHORT_OUTPUT);
+    expect_refused("12 before a short answer", values, 2, 20, 3, HUNTELM_REFUSED_TOO_MANY_SAMPLES);
+    expect_refused("12 and no answer", values, 6, OUT, 0, HUNTELM_REFUSED_TOO_MANY_SAMPLES);
+    expect_block("nothing more", values, 0, 0, 0, 0);
+    state[HUNTELM_STATE_SAMPLES] = INT64_MAX - 1;
+    expect_refused("two pairs would be taken", values, 6, 40, ANSWER, HUNTELM_REFUSED_TOO_MANY_SAMPLES);
+    expect_refused("one would, and the answer is short", values, 6, 39, 3, HUNTELM_REFUSED_SHORT_OUTPUT);
+    expect_block("one would", values, 6, 39, 1, 1);
+    expect("no sample more can be counted", state[HUNTELM_STATE_SAMPLES], INT64_MAX);
+}
+
 /* Every call on a state and an output of these lengths, with a period that no loop sets and values that are no whole samples. */
 static void expect_all(const char *what, size_t state_len, size_t out_len, int64_t want) {
     static const int16_t values[3] = {1000, -1000, 0};
     memcpy(kept, state, sizeof kept);
     expect(what, huntelm_judge(FULL), want);
     expect(what, huntelm_start(FULL, state, state_len), want);
-    expect(what, huntelm_block(FULL, state, state_len, values, 3, out, out_len), -want);
+    expect(what, huntelm_block(FULL, state, state_len, values, 3, out, out_len, answer, 0), want);
+    expect(what, huntelm_block(FULL, state, state_len, values, 3, out, out_len, answer, ANSWER), want);
     expect(what, huntelm_read(FULL, state, state_len, out, out_len), want);
     expect(what, huntelm_offset(FULL, 0, out, out_len), want);
     expect("the state stays as it was", memcmp(state, kept, sizeof kept), 0);
@@ -188,7 +343,7 @@ static void shortest_delay(void) {
     fill();
     sheet[HUNTELM_SHEET_DELAY] = 1;
     expect("starting", huntelm_start(FULL, state, HUNTELM_STATE_PLACES), HUNTELM_ACCEPTED);
-    expect("a block", huntelm_block(FULL, state, HUNTELM_STATE_PLACES, values, 6, out, OUT), 2);
+    expect_block("a block", values, 6, OUT, 2, 3);
     expect("the gain of the first symbol", out[HUNTELM_SYMBOL_GAIN], 1024);
     expect("the second symbol", memcmp(out + HUNTELM_SYMBOL_PLACES, second, sizeof second), 0);
     expect("the gain accumulator", state[HUNTELM_STATE_GAIN_ACC], 263137);
@@ -197,8 +352,8 @@ static void shortest_delay(void) {
     expect("which stays where it was", state[HUNTELM_STATE_PENDING + 1], 15896);
     expect("the error that waits", state[HUNTELM_STATE_PENDING + 3], 15893);
     state[HUNTELM_STATE_OLDEST] = 23;
-    expect("a sample between symbols", huntelm_block(FULL, state, HUNTELM_STATE_PLACES, values + 2, 2, out, OUT), 0);
-    expect("a symbol", huntelm_block(FULL, state, HUNTELM_STATE_PLACES, values, 2, out, OUT), 1);
+    expect_block("a sample between symbols", values + 2, 2, OUT, 0, 1);
+    expect_block("a symbol", values, 2, OUT, 1, 1);
     expect("behind the last place comes the first", state[HUNTELM_STATE_OLDEST], 0);
     expect("where the new error is", state[HUNTELM_STATE_PENDING + 1], out[HUNTELM_SYMBOL_ERR]);
     state[HUNTELM_STATE_OLDEST] = 24;
@@ -215,7 +370,7 @@ static void another_delay(void) {
         expect("starting", huntelm_start(FULL, state, HUNTELM_STATE_PLACES), HUNTELM_ACCEPTED);
         for (samples = 1; samples <= 52; samples++) {
             symbols = (samples + 1) / 2;
-            expect("a sample", huntelm_block(FULL, state, HUNTELM_STATE_PLACES, values, 2, out, OUT), samples % 2);
+            expect_block("a sample", values, 2, OUT, samples % 2, 1);
             expect("errors that wait", state[HUNTELM_STATE_WAITING], symbols < delay ? symbols : delay);
             sheet[HUNTELM_SHEET_DELAY] = 47 - delay;
             expect("under the other delay", huntelm_read(FULL, state, HUNTELM_STATE_PLACES, out, OUT),
@@ -243,10 +398,13 @@ static void nothing_lent(void) {
     expect("judging nothing", huntelm_judge(NULL, 0, NULL, 0, NULL, 0, NULL, 0), HUNTELM_REFUSED_PLACE_COUNT);
     expect("judging no banks", huntelm_judge(sheet, 18, NULL, 0, NULL, 0, NULL, 0), HUNTELM_REFUSED_BANK_LENGTH);
     expect("starting no state", huntelm_start(FULL, NULL, 0), HUNTELM_REFUSED_STATE);
-    expect("a block on no state", huntelm_block(FULL, NULL, 0, NULL, 0, NULL, 0), -HUNTELM_REFUSED_STATE);
+    expect("a block on no state", huntelm_block(FULL, NULL, 0, NULL, 0, NULL, 0, NULL, 0), HUNTELM_REFUSED_STATE);
     expect("reading no state", huntelm_read(FULL, NULL, 0, NULL, 0), HUNTELM_REFUSED_STATE);
     expect("starting", huntelm_start(FULL, state, HUNTELM_STATE_PLACES), HUNTELM_ACCEPTED);
-    expect("an empty block", huntelm_block(FULL, state, HUNTELM_STATE_PLACES, NULL, 0, NULL, 0), 0);
+    expect("an empty block", huntelm_block(FULL, state, HUNTELM_STATE_PLACES, NULL, 0, NULL, 0, answer, HUNTELM_BLOCK_PLACES), HUNTELM_ACCEPTED);
+    expect("its symbols", answer[HUNTELM_BLOCK_COUNT], 0);
+    expect("its pairs", answer[HUNTELM_BLOCK_TAKEN], 0);
+    expect("a block that says nothing", huntelm_block(FULL, state, HUNTELM_STATE_PLACES, NULL, 0, NULL, 0, NULL, 0), HUNTELM_REFUSED_SHORT_OUTPUT);
     expect("a reading to nowhere", huntelm_read(FULL, state, HUNTELM_STATE_PLACES, NULL, 0), HUNTELM_REFUSED_SHORT_OUTPUT);
     expect("an offset to nowhere", huntelm_offset(FULL, 33554432, NULL, 0), HUNTELM_REFUSED_SHORT_OUTPUT);
     expect("no float samples", huntelm_sample(NULL, 0, NULL, 0), HUNTELM_ACCEPTED);
@@ -311,6 +469,10 @@ int main(void) {
     judging();
     detector();
     path();
+    short_buffers();
+    first_pairs();
+    places_of_the_answer();
+    order();
     refused_delays();
     shortest_delay();
     another_delay();

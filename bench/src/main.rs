@@ -4,7 +4,7 @@
 mod programs;
 
 use archive_calls::Sheet;
-use huntelm::archive::{STATE, SYMBOL};
+use huntelm::archive::{BLOCK, BLOCK_TAKEN, STATE, SYMBOL};
 use isdb_frontend::fixed::{Frontend, Symbol};
 use isdb_frontend::params::{Design, Params};
 use oracle::sheet::Sheet as Fields;
@@ -125,6 +125,7 @@ fn block_times(p: &Params, block: usize) -> (f64, f64) {
     let mut state = [0; STATE];
     assert_eq!(sheet.lent().start(&mut state), 0);
     let mut out = vec![0; SYMBOL * block];
+    let mut answer = [0; BLOCK];
     least_each(
         pairs,
         || {
@@ -135,9 +136,13 @@ fn block_times(p: &Params, block: usize) -> (f64, f64) {
             }
         },
         || {
-            for x in values.chunks(2 * block) {
-                let count = sheet.lent().block(&mut state, x, &mut out);
-                assert!(count >= 0);
+            // Every block has enough places, so that it is taken whole.
+            let mut left = &values[..];
+            while !left.is_empty() {
+                let x = &left[..left.len().min(2 * block)];
+                let refused = sheet.lent().block(&mut state, x, &mut out, &mut answer);
+                assert_eq!(refused, 0);
+                left = &left[2 * answer[BLOCK_TAKEN] as usize..];
                 black_box(&out);
             }
         },

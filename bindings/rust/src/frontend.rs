@@ -1,9 +1,12 @@
 //! The front end and its symbols: the archive keeps nothing between calls, so the state and the sheet that it goes with are kept here.
 
-use crate::archive::{SHEET, STATE, STATE_SAMPLES, STATE_T, SYMBOL};
+use crate::archive::{
+    BLOCK, BLOCK_COUNT, BLOCK_TAKEN, SHEET, STATE, STATE_SAMPLES, STATE_T, SYMBOL, Sheet,
+};
 use crate::{Params, Refusal};
 
-/// Pairs that go to the archive at once. How samples are cut changes no symbol; this bounds the memory for a long block.
+/// Pairs that the archive is lent places for at once, and so the most that it takes at once. How samples are cut changes no symbol; this bounds the memory
+/// for a long block.
 const PAIRS: usize = 4096;
 
 /// A symbol, and what it was made of. A pair is I, then Q.
@@ -126,13 +129,14 @@ impl Frontend {
     ///
     /// 12 where it would be the 2^63-th sample; nothing is changed then.
     pub fn push(&mut self, sample: [i16; 2]) -> Result<Option<Symbol>, Refusal> {
-        let mut place = [0; SYMBOL];
+        let mut places = [0; SYMBOL];
         let sheet = self.params.sheet(&self.sheet);
-        let symbols = Refusal::check_count(sheet.block(&mut self.state, &sample, &mut place))?;
-        Ok((symbols == 1).then(|| Symbol::of(&place)))
+        let block = offer(sheet, &mut self.state, &[sample], &mut places)?;
+        assert_eq!(block.taken, 1, "there was room for its symbol");
+        Ok((block.symbols == 1).then(|| Symbol::of(&places)))
     }
 
-    /// Takes a block of samples, appends its symbols to `out`, and says how many these are.
+    /// Takes a block of samples, all of them, appends its symbols to `out`, and says how many these are.
     ///
     /// How samples are cut into blocks changes no symbol. Room for a block is kept from call to call, so a caller that clears `out` in between has
     /// nothing allocated once the largest block has passed.
@@ -146,27 +150,35 @@ impl Frontend {
         out: &mut Vec<Symbol>,
     ) -> Result<usize, Refusal> {
         let (state, before) = (self.state, out.len());
-        for part in samples.chunks(PAIRS) {
-            if let Err(refusal) = self.process_part(part, out) {
-                self.state = state;
-                out.truncate(before);
-                return Err(refusal);
+        let mut left = samples;
+        while !left.is_empty() {
+            match self.process_part(left, out) {
+                Ok(taken) => left = &left[taken..],
+                Err(refusal) => {
+                    self.state = state;
+                    out.truncate(before);
+                    return Err(refusal);
+                }
             }
         }
         Ok(out.len() - before)
     }
 
-    fn process_part(&mut self, samples: &[[i16; 2]], out: &mut Vec<Symbol>) -> Result<(), Refusal> {
-        let room = SYMBOL * samples.len();
+    /// Takes the first of the samples, as many as there is room for, appends their symbols, and says how many samples these were.
+    fn process_part(
+        &mut self,
+        samples: &[[i16; 2]],
+        out: &mut Vec<Symbol>,
+    ) -> Result<usize, Refusal> {
+        let room = SYMBOL * samples.len().min(PAIRS);
         if self.out.len() < room {
             self.out.resize(room, 0);
         }
         let sheet = self.params.sheet(&self.sheet);
-        let count = sheet.block(&mut self.state, samples.as_flattened(), &mut self.out);
-        let symbols = Refusal::check_count(count)?;
-        let (places, _) = self.out[..SYMBOL * symbols].as_chunks();
+        let block = offer(sheet, &mut self.state, samples, &mut self.out)?;
+        let (places, _) = self.out[..SYMBOL * block.symbols].as_chunks();
         out.extend(places.iter().map(Symbol::of));
-        Ok(())
+        Ok(block.taken)
     }
 
     /// The parameters.
@@ -209,6 +221,28 @@ impl Frontend {
         .expect("a state that starting or a block has written is never refused");
         answer
     }
+}
+
+/// What a block says of itself.
+struct Block {
+    symbols: usize,
+    taken: usize,
+}
+
+/// Offers samples to the archive. It takes as many of the first as `out` has room for a symbol each, and at least one where there is room for one.
+fn offer(
+    sheet: Sheet,
+    state: &mut [i64],
+    samples: &[[i16; 2]],
+    out: &mut [i64],
+) -> Result<Block, Refusal> {
+    let mut answer = [0; BLOCK];
+    Refusal::check(sheet.block(state, samples.as_flattened(), out, &mut answer))?;
+    // Neither is more than the pairs of a slice.
+    Ok(Block {
+        symbols: answer[BLOCK_COUNT] as usize,
+        taken: answer[BLOCK_TAKEN] as usize,
+    })
 }
 
 #[cfg(test)]
@@ -270,18 +304,20 @@ mod tests {
         let sheet = p.sheet(&places);
         let mut fresh = [7; STATE];
         assert_eq!(sheet.start(&mut fresh), 0);
-        for (length, values, places, refusal) in [
-            (STATE - 1, 2, 20, Refusal::State),
-            (STATE, 3, 60, Refusal::OddInput),
-            (STATE, 4, 39, Refusal::ShortOutput),
+        for (length, values, places, room, refusal) in [
+            (STATE - 1, 2, 20, BLOCK, Refusal::State),
+            (STATE, 3, 60, BLOCK, Refusal::OddInput),
+            (STATE, 4, 19, BLOCK, Refusal::ShortOutput),
+            (STATE, 4, 40, BLOCK - 1, Refusal::ShortOutput),
         ] {
             let mut state = fresh;
             let mut out = vec![-3; places];
-            assert_eq!(
-                sheet.block(&mut state[..length], &vec![9; values], &mut out),
-                -i64::from(refusal.number())
-            );
+            let mut answer = vec![-5; room];
+            let values = vec![9; values];
+            let number = sheet.block(&mut state[..length], &values, &mut out, &mut answer);
+            assert_eq!(number, refusal.number());
             assert_eq!((state, out), (fresh, vec![-3; places]));
+            assert_eq!(answer, vec![-5; room]);
         }
     }
 

@@ -28,7 +28,8 @@ pub enum Refusal {
     State = 9,
     /// 10: an odd number of sample values. Pairs never are one.
     OddInput = 10,
-    /// 11: fewer places than the answer may take. This crate always lends enough.
+    /// 11: fewer places than the answer needs; of those for a block's symbols, fewer than the 20 of one symbol where there are samples to take. Only
+    /// [`archive`](crate::archive) meets it: the rest of this crate lends enough.
     ShortOutput = 11,
     /// 12: more than 2^63 − 1 samples in all.
     TooManySamples = 12,
@@ -101,29 +102,12 @@ impl Refusal {
     pub(crate) fn check(answer: u32) -> Result<(), Self> {
         match answer {
             0 => Ok(()),
-            number => Err(Self::answered(number.into())),
-        }
-    }
-
-    /// What a block answered: how many symbols it wrote, or a refusal's number below zero.
-    pub(crate) fn check_count(answer: i64) -> Result<usize, Self> {
-        match answer {
-            // Not more than the pairs of a slice.
-            0.. => Ok(answer as usize),
-            _ => Err(Self::answered(answer.unsigned_abs())),
-        }
-    }
-
-    /// The refusal of this number.
-    fn answered(number: u64) -> Self {
-        u32::try_from(number)
-            .ok()
-            .and_then(Self::from_number)
-            .unwrap_or_else(|| {
+            number => Err(Self::from_number(number).unwrap_or_else(|| {
                 panic!(
                     "{number} is no refusal: the archive and this crate are of different versions"
                 )
-            })
+            })),
+        }
     }
 }
 
@@ -140,7 +124,7 @@ impl fmt::Display for Refusal {
             Self::AgcShift => "agc_shift is above 63",
             Self::State => "the state is one that no run under its sheet can have",
             Self::OddInput => "the number of sample values is odd",
-            Self::ShortOutput => "there are too few places for the answer",
+            Self::ShortOutput => "there are too few places for the answer or for one symbol",
             Self::TooManySamples => "there are more than 2^63 - 1 samples in all",
             Self::Period => "the period is outside period_min..period_max",
             Self::SamplesPerSymbol => {

@@ -3,7 +3,7 @@
 mod common;
 
 use common::{RECORDING, recording};
-use huntelm::archive::{STATE, SYMBOL, Sheet};
+use huntelm::archive::{BLOCK, BLOCK_COUNT, BLOCK_TAKEN, STATE, SYMBOL, Sheet};
 use huntelm::{Frontend, Params, Refusal, Symbol};
 use std::collections::HashSet;
 
@@ -45,8 +45,11 @@ fn fresh(p: &Params) -> [i64; STATE] {
 /// Takes one pair, and gives the symbol's places where one falls on it.
 fn step(p: &Params, state: &mut [i64; STATE], pair: [i16; 2]) -> Option<[i64; SYMBOL]> {
     let mut symbol = [0; SYMBOL];
-    let count = lent(p, &p.places()).block(state, &pair, &mut symbol);
+    let mut answer = [0; BLOCK];
+    let number = lent(p, &p.places()).block(state, &pair, &mut symbol, &mut answer);
+    let count = answer[BLOCK_COUNT];
     assert!(count == 0 || count == 1, "{count}");
+    assert_eq!((number, answer[BLOCK_TAKEN]), (0, 1));
     (count == 1).then_some(symbol)
 }
 
@@ -68,10 +71,11 @@ fn refused_by_all(sheet: Sheet, refusal: Refusal, state: &[i64], values: &[i16],
     for period in [0, sheet.places[2] as u32] {
         assert_eq!(sheet.offset(period, &mut out), number);
     }
-    assert_eq!(
-        sheet.block(&mut places, values, &mut out),
-        -i64::from(number)
-    );
+    for places_of_answer in [0, BLOCK] {
+        let mut answer = vec![-7; places_of_answer];
+        let answered = sheet.block(&mut places, values, &mut out, &mut answer);
+        assert_eq!((answered, answer), (number, vec![-7; places_of_answer]));
+    }
     assert_eq!((&places[..], out), (state, vec![-7; room]));
 }
 
@@ -208,8 +212,8 @@ fn a_state_under_another_delay() {
                 };
                 assert_eq!(sheet.read(&state, &mut [0; 3]), number);
                 let mut lent_state = state;
-                let count = sheet.block(&mut lent_state, &[], &mut []);
-                assert_eq!((count, lent_state), (-i64::from(number), state));
+                let block = sheet.block(&mut lent_state, &[], &mut [], &mut [0; BLOCK]);
+                assert_eq!((block, lent_state), (number, state));
                 seen[usize::from(number != 0)] += 1;
             }
         }

@@ -39,6 +39,16 @@ pairs-at (i ∷ q ∷ values) (suc n) h =
     let b : 2 * suc n + 1 ≡ suc (suc (2 * n + 1)) = omega arith in
     rw (b, a) (pairs-at values n (omega arith))
 
+-- the first n pairs are those of the first 2 n values
+pub pairs-cut : (values : List ℤ) (n : ℕ) → pairsOf (take (2 * n) values) ≡ take n (pairsOf values)
+unfolding pairsOf
+pairs-cut values zero = refl
+pairs-cut [] (suc n) = let a : 2 * suc n ≡ suc (suc (2 * n)) = omega arith in rw a refl
+pairs-cut (i ∷ []) (suc n) = let a : 2 * suc n ≡ suc (suc (2 * n)) = omega arith in rw a refl
+pairs-cut (i ∷ q ∷ values) (suc n) =
+    let a : 2 * suc n ≡ suc (suc (2 * n)) = omega arith in
+    rw a (ap (λ (l : List Pair). record { i = i; q = q } ∷ l) (pairs-cut values n))
+
 -- ---- a turn's output
 
 -- The output begins with the places of these symbols, and is otherwise as it was.

@@ -43,14 +43,16 @@ ghost use Rattle.params.specs.Judge.{sheetOf};
 ghost use Rattle.state.specs.Check.{blockFaults};
 ghost use Rattle.fixed.specs.Block.{accepted, blockOf, processed};
 
-// What a block answers: the new state and how many symbols it wrote, or the state given and 0.
+// What a block answers: the new state, how many pairs it took and how many symbols it wrote, or the state given and twice 0.
 pub struct Processed {
     pub verdict: FrontendVerdict,
     pub state: Frontend,
+    pub taken: usize,
     pub count: usize,
 }
 
-// A block of samples, I before Q; the places of its symbols go to `out`, 20 each (RULES 4).
+// A block of samples, I before Q; the places of its symbols go to `out`, 20 each (RULES 4). With a short `out` it takes fewer pairs than it is given: who
+// calls goes on from `taken`.
 pub fn process(
     f: Frontend,
     p: Params,
@@ -70,12 +72,13 @@ pub fn process(
         _ => Processed {
             verdict,
             state: f,
+            taken: 0,
             count: 0,
         },
     }
 }
 
-// A block that nothing refuses: the line and the waiting errors are taken out of the state, lent to each sample, and put back.
+// A block that nothing refuses: the line and the waiting errors are taken out of the state, lent to each sample that has places for a symbol, and put back.
 fn run(
     f: Frontend,
     p: Params,
@@ -90,6 +93,7 @@ fn run(
         processed r (now (out .exit)) ≡ accepted (sheetOf p (now (h .entry)) (now (g .entry)) (now (k .entry))) f
         (now (values .entry)) (now (out .entry)) ⌝ }
 {
+    let taken = state::pairs_taken(values.len(), out.len());
     let taps = p.taps as usize;
     let mut i = [0u32; 128];
     let mut q = [0u32; 128];
@@ -105,7 +109,7 @@ fn run(
         h,
         g,
         k,
-        values,
+        &values[..2 * taken],
         &mut *out,
         &mut i,
         &mut q,
@@ -128,6 +132,7 @@ fn run(
     Processed {
         verdict: FrontendVerdict::Accepted,
         state,
+        taken,
         count: s.count,
     }
 }

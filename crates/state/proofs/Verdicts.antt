@@ -1,15 +1,15 @@
 -- What a call on a state answers, and what its answer tells of the faults. The faults of a sheet, of a state and of a block's sizes are looked for in this
 -- order, each has a number other than 0, and so an answer of "accepted" says that there is none.
-use Prim.Native.Nat.{ℕ, _+_, _*_, _/_, _≤_, _<_}
-use mathlib.Core.Path.{_≡_, sym, ap, _∙_, subst}
-use mathlib.Core.Logic.{inl, inr}
-use mathlib.Core.Bool.{Bool, true, false}
+use Prim.Native.Nat.{ℕ, _+_, _/_, _%_, _≤_, _<_, min}
+use mathlib.Core.Path.{_≡_, refl, sym, ap, _∙_, subst}
+use mathlib.Core.Logic.{_⊎_, inl, inr}
+use mathlib.Core.Bool.{Bool, true, false, _||_}
 use mathlib.Core.List.{List, [], _∷_, _++_, flatten}
 use native.Mathlib.Omega.{arith}
-use lib.Dec.{eqb, lit<}
+use lib.Dec.{eqb, leb, lit<}
 use types.Run.{OneOf}
 use denote.Enum.Declared.{tagOf}
-use borrow.Author.Tests.{leb-true, ne-eqb}
+use borrow.Author.Tests.{eqb-true, leb-true, ne-eqb}
 use Rattle.params.specs.declared.Params.{Params as Fields}
 use Rattle.params.specs.declared.ParamError.{ParamError}
 use Rattle.params.specs.declared.Verdict.{Verdict}
@@ -23,7 +23,7 @@ use Rattle.state.specs.declared.Frontend.{Frontend}
 use Rattle.state.specs.declared.Position.{Position}
 use Rattle.state.specs.declared.FrontendVerdict.{FrontendVerdict}
 use Rattle.state.specs.declared.FrontendVerdict.the-variants.{Accepted, Params, State, OddInput, ShortOutput, TooManySamples}
-use Rattle.state.specs.Check.{goodState, stateFaults, sizeFaults, blockFaults, frontendRefusal, outline}
+use Rattle.state.specs.Check.{goodState, stateFaults, pairsTaken, sizeFaults, blockFaults, frontendRefusal, outline}
 use Rattle.state.proofs.FrontendVerdict as verdict
 
 -- ---- two lists of faults, one after the other
@@ -118,17 +118,32 @@ sizes-answer s f values places none e = e ∙ sym (first-rest (stateFaults s f) 
 pub state-good : (s : Sheet) (f : Frontend) → stateFaults s f ≡ [] → goodState (s .params) f ≡ true
 state-good s f e = kept (goodState (s .params) f) (refusal 9 []) (none-right (faults s) _ e)
 
--- the places for its symbols that a block asks for, and the samples that can still be counted
+-- what is said of a block's sizes: whole pairs, room for a symbol where there are any, and samples that can still be counted
 pub record Sized (f : Frontend) (values places : ℕ) : Type 0 where
-  pub long : 20 * (values / 2) ≤ places
-  pub few : f .samples + values / 2 ≤ 9223372036854775807
+  pub whole : values % 2 ≡ 0
+  pub room : (values ≡ 0) ⊎ (20 ≤ places)
+  pub few : f .samples + pairsTaken values places ≤ 9223372036854775807
 
 pub sized : (f : Frontend) (values places : ℕ) → sizeFaults f values places ≡ [] → Sized f values places
 unfolding sizeFaults
 sized f values places e = record {
-  long = leb-true (20 * (values / 2)) places (kept _ _ (none-at _ e 1));
-  few = leb-true (f .samples + values / 2) 9223372036854775807 (kept _ _ (none-at _ e 2));
+  whole = eqb-true (values % 2) 0 (kept _ _ (none-at _ e 0));
+  room = go (eqb values 0) refl (kept _ _ (none-at _ e 1));
+  few = leb-true (f .samples + pairsTaken values places) 9223372036854775807 (kept _ _ (none-at _ e 2));
 }
+  where
+    go : (b : Bool) → eqb values 0 ≡ b → (eqb values 0 || leb 20 places) ≡ true → (values ≡ 0) ⊎ (20 ≤ places)
+    go true z h = inl (eqb-true values 0 z)
+    go false z h = inr (leb-true 20 places (rw z at h))
+
+-- so a block that has pairs takes one
+pub takes-some : (f : Frontend) {values places : ℕ} → Sized f values places → 2 ≤ values → 1 ≤ pairsTaken values places
+unfolding pairsTaken
+takes-some f {values} {places} s h = go (s .room)
+  where
+    go : (values ≡ 0) ⊎ (20 ≤ places) → 1 ≤ min (values / 2) (places / 20)
+    go (inl z) = absurd (omega arith)
+    go (inr l) = omega arith
 
 -- what a block without any fault has
 pub record Faultless (s : Sheet) (f : Frontend) (values places : ℕ) : Type 0 where

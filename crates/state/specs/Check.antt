@@ -1,7 +1,7 @@
 -- What a call refuses of a state and of a block's sizes, after what judging refuses of the sheet.
 -- (RULES 4. A number before a definition is that of the refusal it decides.)
 use Prim.Native.Nat.{ℕ, _+_, _*_, _/_, _%_, min}
-use mathlib.Core.Bool.{Bool, _&&_}
+use mathlib.Core.Bool.{Bool, _&&_, _||_}
 use mathlib.Core.List.{List, [], _∷_, _++_, flatten}
 use lib.Dec.{eqb, leb, ltb}
 use lib.IntN.{pos, negℤ}
@@ -30,13 +30,18 @@ goodState p f =
 abbrev pub stateFaults : Sheet → Frontend → List Refusal
 stateFaults s f = faults s ++ unless (goodState (s .params) f) (refusal 9 [])
 
--- 10 to 12, of so many sample values and output places: an odd number of values, fewer than 20 places for each pair, more samples in all than 2^63 - 1.
+-- How many pairs of so many sample values a block takes, with so many output places: all, or as many as there are 20 places for. Both are whole pairs.
+unfoldable pub pairsTaken : ℕ → ℕ → ℕ
+pairsTaken values places = min (values / 2) (places / 20)
+
+-- 10 to 12, of so many sample values and output places: an odd number of values, be they taken or not; values, and no 20 places for a symbol; more samples in
+-- all than 2^63 - 1, with the pairs that would be taken.
 unfoldable pub sizeFaults : Frontend → ℕ → ℕ → List Refusal
 sizeFaults f values places =
     flatten
     (unless (eqb (values % 2) 0) (refusal 10 [])
-    ∷ unless (leb (20 * (values / 2)) places) (refusal 11 [])
-    ∷ unless (leb (f .samples + values / 2) 9223372036854775807) (refusal 12 [])
+    ∷ unless (eqb values 0 || leb 20 places) (refusal 11 [])
+    ∷ unless (leb (f .samples + pairsTaken values places) 9223372036854775807) (refusal 12 [])
     ∷ [])
 
 -- 1 to 8, 29, then 9 to 12, of a block of so many.

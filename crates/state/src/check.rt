@@ -9,7 +9,7 @@ use registers::Registers;
 ghost use mathlib.Core.Path.{_≡_};
 ghost use Rattle.params.specs.Refusal.{firstOf};
 ghost use Rattle.params.specs.Judge.{sheetOf};
-ghost use Rattle.state.specs.Check.{outline, goodState, stateFaults, sizeFaults, blockFaults, frontendRefusal};
+ghost use Rattle.state.specs.Check.{outline, goodState, stateFaults, pairsTaken, sizeFaults, blockFaults, frontendRefusal};
 
 // 9: whether a block can go on from these registers and positions.
 fn is_good_state(p: Params, r: Registers, w: Position) -> bool
@@ -33,6 +33,13 @@ fn is_good_state(p: Params, r: Registers, w: Position) -> bool
         && w.waiting == waiting
         && w.oldest < RING_PLACES
         && r.symbols <= w.samples
+}
+
+// How many pairs of so many sample values a block takes, with so many output places (RULES 4.2).
+pub fn pairs_taken(values: usize, places: usize) -> usize
+    ensures { λ r. ⌜ r ≡ pairsTaken values places ⌝ }
+{
+    arith::least(values / 2, places / 20)
 }
 
 impl Frontend {
@@ -83,17 +90,17 @@ impl Frontend {
         }
     }
 
-    // 10 to 12. The places are counted in symbols and the samples by what is left of them, so that neither test can overflow.
+    // 10 to 12. The samples are counted by what is left of them, so that the test cannot overflow.
     fn check_sizes(self, values: usize, places: usize) -> FrontendVerdict
         ensures { λ r. ⌜ frontendRefusal r ≡ firstOf (sizeFaults self values places) ⌝ }
     {
         if values % 2 != 0 {
             return FrontendVerdict::OddInput;
         }
-        if places / 20 < values / 2 {
+        if values != 0 && places < 20 {
             return FrontendVerdict::ShortOutput;
         }
-        let room = 0x7fff_ffff_ffff_ffff - (values / 2) as u64;
+        let room = 0x7fff_ffff_ffff_ffff - pairs_taken(values, places) as u64;
         if room < self.samples {
             return FrontendVerdict::TooManySamples;
         }

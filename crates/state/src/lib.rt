@@ -3,6 +3,7 @@ mod check;
 mod read;
 mod start;
 
+pub use check::pairs_taken;
 use params::ParamError;
 use params::Verdict;
 use registers::Pending;

@@ -13,19 +13,19 @@ use Rattle.state.specs.declared.Pair.{Pair}
 use Rattle.state.specs.declared.Frontend.{Frontend}
 use Rattle.symbol.specs.declared.Symbol.{Symbol}
 use Rattle.fixed.specs.Sample.{after, emitted}
-use Rattle.state.specs.Check.{blockFaults}
+use Rattle.state.specs.Check.{pairsTaken, blockFaults}
 use Rattle.fixed.specs.Block.{pairsOf, flattened, accepted, blockOf}
 use Rattle.timing.specs.Lists.{Call, answer, stateAfter, takenBy, taken, written, counted}
 use Rattle.fixed.proofs.Runs.{after-append, emitted-append, flattened-append, length-flattened}
 
 module _ (s : Sheet) where
-  abbrev number : Frontend → Call → ℕ
+  abbrev pub number : Frontend → Call → ℕ
   number f c = firstOf (blockFaults s f (length (c .values)) (length (c .out))) .number
 
   -- an answer, once its refusal's number is known to be 0 or not
-  answer-is : (f : Frontend) (c : Call) (b : Bool) → eqb (number f c) 0 ≡ b
+  pub answer-is : (f : Frontend) (c : Call) (b : Bool) → eqb (number f c) 0 ≡ b
       → answer s f c ≡ cond b (accepted s f (c .values) (c .out))
-      (record { refused = firstOf (blockFaults s f (length (c .values)) (length (c .out))); state = f; count = 0; output = c .out })
+      (record { refused = firstOf (blockFaults s f (length (c .values)) (length (c .out))); state = f; taken = 0; count = 0; output = c .out })
   unfolding blockOf
   answer-is f c b e = rw e
 
@@ -37,7 +37,7 @@ module _ (s : Sheet) where
     where
       go : (b : Bool) → eqb (number f c) 0 ≡ b → answer s f c .state ≡ after s f (takenBy s f c)
       go true e = rw (answer-is f c true e)
-      go false e = rw (answer-is f c false e, e)
+      go false e = rw (answer-is f c false e)
 
   one-count : (f : Frontend) (c : Call) → answer s f c .count ≡ length (emitted s f (takenBy s f c))
   unfolding accepted emitted
@@ -45,7 +45,7 @@ module _ (s : Sheet) where
     where
       go : (b : Bool) → eqb (number f c) 0 ≡ b → answer s f c .count ≡ length (emitted s f (takenBy s f c))
       go true e = rw (answer-is f c true e)
-      go false e = rw (answer-is f c false e, e)
+      go false e = rw (answer-is f c false e)
 
   one-output : (f : Frontend) (c : Call) → take (20 * answer s f c .count) (answer s f c .output) ≡ flattened (emitted s f (takenBy s f c))
   unfolding accepted emitted flattened
@@ -53,9 +53,10 @@ module _ (s : Sheet) where
     where
       go : (b : Bool) → eqb (number f c) 0 ≡ b → take (20 * answer s f c .count) (answer s f c .output) ≡ flattened (emitted s f (takenBy s f c))
       go true e =
-          let ys : List Symbol = emitted s f (pairsOf (c .values)) in
+          let n : ℕ = pairsTaken (length (c .values)) (length (c .out)) in
+          let ys : List Symbol = emitted s f (take n (pairsOf (c .values))) in
           rw (answer-is f c true e) (take-at (flattened ys) (drop (20 * length ys) (c .out)) (20 * length ys) (length-flattened ys))
-      go false e = rw (answer-is f c false e, e)
+      go false e = rw (answer-is f c false e)
 
   -- ---- a list of calls
 

@@ -3,7 +3,7 @@
 use Prim.Native.Nat.{ℕ, _+_, _*_, _/_, _%_, _≤_}
 use mathlib.Core.Path.{_≡_, refl, sym, ap, _∙_, subst}
 use mathlib.Core.Logic.{_⊎_, inl, inr}
-use mathlib.Core.Bool.{Bool, true, false}
+use mathlib.Core.Bool.{Bool, true, false, _||_}
 use mathlib.Core.List.{List, [], _++_, flatten}
 use native.Mathlib.Omega.{arith}
 use lib.Dec.{eqb, leb}
@@ -15,7 +15,7 @@ use Rattle.params.proofs.Accepted.{Accepted, judged-none, no-faults}
 use Rattle.state.specs.declared.Frontend.{Frontend}
 use Rattle.symbol.specs.declared.Symbol.{Symbol}
 use Rattle.state.specs.Start.{startOf}
-use Rattle.state.specs.Check.{goodState, stateFaults, sizeFaults, blockFaults}
+use Rattle.state.specs.Check.{goodState, stateFaults, pairsTaken, sizeFaults, blockFaults}
 use Rattle.fixed.specs.Block.{accepted, blockOf}
 use Rattle.timing.specs.Lists.{Call, answer, endState}
 use Rattle.timing.specs.Timing.{StatesGoOn}
@@ -56,7 +56,7 @@ own : (l : List Refusal) → l ≡ [] → (f : Frontend) (values places : ℕ)
     → let r = firstOf (l ++ sizeFaults f values places) in Own (r .number)
 unfolding sizeFaults flatten
 own l e f values places =
-    rw e (by (eqb (values % 2) 0) (leb (20 * (values / 2)) places) (leb (f .samples + values / 2) 9223372036854775807))
+    rw e (by (eqb (values % 2) 0) (eqb values 0 || leb 20 places) (leb (f .samples + pairsTaken values places) 9223372036854775807))
   where
     by : (x y z : Bool) → let r = firstOf (unless x (refusal 10 []) ++ (unless y (refusal 11 []) ++ (unless z (refusal 12 []) ++ []))) in Own (r .number)
     by false y z = inr (omega arith, omega arith)

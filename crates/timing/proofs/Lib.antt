@@ -4,3 +4,4 @@ pub mod Errors
 pub mod Invariant
 pub mod Timing
 pub mod GoOn
+pub mod Advance

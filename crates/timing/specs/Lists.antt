@@ -1,9 +1,7 @@
 -- Lists of block calls: each call is given the state that the one before it handed back, whether that was refused or not.
 -- (RULES 5.1)
 use Prim.Native.Nat.{ℕ, _+_, _*_}
-use mathlib.Core.Bool.{cond}
 use mathlib.Core.List.{List, [], _∷_, _++_}
-use lib.Dec.{eqb}
 use lib.ListN.{take}
 use lib.IntN.{ℤ}
 use Rattle.params.specs.Judge.{Sheet}
@@ -25,9 +23,9 @@ unfoldable pub stateAfter : Sheet → Frontend → List Call → Frontend
 stateAfter s f [] = f
 stateAfter s f (c ∷ cs) = stateAfter s (answer s f c .state) cs
 
--- The samples that a call takes: all of its pairs, or none where it is refused.
+-- The samples that a call takes: its first pairs, as many as it answers. A refused call answers 0.
 abbrev pub takenBy : Sheet → Frontend → Call → List Pair
-takenBy s f c = cond (eqb (answer s f c .refused .number) 0) (pairsOf (c .values)) []
+takenBy s f c = take (answer s f c .taken) (pairsOf (c .values))
 
 -- The same of some calls, joined in order.
 unfoldable pub taken : Sheet → Frontend → List Call → List Pair

@@ -12,7 +12,9 @@ use Rattle.params.specs.Refusal.{nothing}
 use Rattle.params.specs.Judge.{Sheet}
 use Rattle.state.specs.declared.Pair.{Pair}
 use Rattle.state.specs.Start.{noPair, startOf}
+use Rattle.state.specs.declared.Frontend.{Frontend}
 use Rattle.fixed.specs.Filter.{sumTo}
+use Rattle.fixed.specs.Block.{pairsOf}
 use Rattle.timing.specs.Lists.{Call, answer, endState, samplesOf, placesWritten, symbolCount}
 
 -- ---- of the places that were written
@@ -112,3 +114,12 @@ abbrev pub StatesGoOn : Type 0
 StatesGoOn =
     (s : Sheet) → startOf s .refused ≡ nothing → (cs : List Call) (c : Call)
     → let n : ℕ = answer s (endState s cs) c .refused .number in (n ≡ 0) ⊎ ((10 ≤ n) × (n ≤ 12))
+
+-- And beyond that: a call takes no more pairs than it is given, and if it is given one and refuses nothing, it takes one at least, whatever the sheet and the
+-- state. So a caller that offers again and again what is left comes to an end.
+pub record Advances (s : Sheet) (f : Frontend) (c : Call) : Type 0 where
+  pub given : answer s f c .taken ≤ length (pairsOf (c .values))
+  pub some : answer s f c .refused .number ≡ 0 → 0 < length (pairsOf (c .values)) → 0 < answer s f c .taken
+
+abbrev pub CallsAdvance : Type 0
+CallsAdvance = (s : Sheet) (f : Frontend) (c : Call) → Advances s f c

@@ -4,7 +4,7 @@ use crate::lent::{Lent, answered};
 use crate::rules;
 use crate::tally::Tally;
 use archive_calls::Sheet;
-use huntelm::archive::{SHEET, SYMBOL};
+use huntelm::archive::{BLOCK, SHEET, SYMBOL};
 use oracle::generate;
 use oracle::random::Random;
 use oracle::reading::Reading;
@@ -18,7 +18,7 @@ pub struct Call {
     pub values: Vec<i16>,
     /// Places for symbols.
     pub places: usize,
-    /// Places for what is read, or for an offset.
+    /// Places for the answer of a block, of a reading or of an offset.
     pub room: usize,
     pub period: u32,
 }
@@ -27,12 +27,14 @@ impl Call {
     /// A call of a state with a few pairs, in which nothing is wrong.
     pub fn good(sheet: &Sheet, state: &State, pairs: u64, r: &mut Random) -> Self {
         let values: Vec<i16> = (0..2 * pairs).map(|_| r.next() as i16).collect();
+        let enough = rules::enough(&values);
+        let some = SYMBOL + r.below(enough as u64 + 1) as usize;
         Self {
             sheet: sheet.clone(),
             state: state.numbers(),
-            places: rules::enough(&values) + r.pick(&[0, 0, 1, 19, 45]),
+            places: r.pick(&[some, some, enough, enough, enough + 1, enough + 45]),
             values,
-            room: r.pick(&[3, 3, 4, 9]),
+            room: any_room(r),
             period: state.period as u32,
         }
     }
@@ -83,27 +85,32 @@ impl Call {
         reading: Result<&Reading, u32>,
         tally: &mut Tally,
         r: &mut Random,
-    ) -> Option<Vec<i64>> {
+    ) -> Option<State> {
         let mut state = Lent::holding(&self.state, r);
         let mut output = Lent::any(self.places, r);
-        let count = self
-            .sheet
-            .lent()
-            .block(state.places(), &self.values, output.places());
+        let mut answer = Lent::any(self.room, r);
+        let number = self.sheet.lent().block(
+            state.places(),
+            &self.values,
+            output.places(),
+            answer.places(),
+        );
+        tally.refusal(number);
         match rules::block(reading, self) {
-            Err(number) => {
-                let untouched = state.is_untouched() && output.is_untouched();
-                tally.refusal(number);
-                tally.answer("a refused block", count == -i64::from(number) && untouched);
+            Err(right) => {
+                let untouched =
+                    state.is_untouched() && output.is_untouched() && answer.is_untouched();
+                tally.answer("a refused block", number == right && untouched);
                 None
             }
-            Ok((after, symbols)) => {
-                let made = symbols.len() / SYMBOL;
-                let right = state.begins_with(&after) && output.begins_with(&symbols);
-                tally.samples += self.values.len() as u64 / 2;
-                tally.symbols += made as u64;
-                tally.answer("a block", count == made as i64 && right);
-                Some(after)
+            Ok(block) => {
+                let made = block.count();
+                let right = state.begins_with(&block.state.numbers())
+                    && output.begins_with(&block.output)
+                    && answer.begins_with(&[made as i64, block.taken as i64]);
+                tally.block(self.values.len() / 2, block.taken, made);
+                tally.answer("a block", number == 0 && right);
+                Some(block.state)
             }
         }
     }
@@ -113,7 +120,7 @@ impl Call {
     /// One fault or several, so that which of them is told can be seen.
     pub fn spoil(&mut self, fields: &Fields, state: &State, r: &mut Random) {
         for _ in 0..1 + r.below(3) {
-            match r.below(10) {
+            match r.below(12) {
                 0 => self.spoil_length(r),
                 1 => self.spoil_field(r),
                 2 => self.sheet = Sheet::from(&generate::spoiled(r, fields.clone())),
@@ -127,12 +134,11 @@ impl Call {
                 }
                 7 => self.values.push(r.next() as i16),
                 8 => {
-                    let enough = rules::enough(&self.values);
-                    let less = r.below(enough as u64 + 1) as usize;
-                    self.places = r.pick(&[enough.saturating_sub(1), less, 0]);
-                    self.room = r.below(3) as usize;
-                    self.period = r.pick(&[fields.period_min - 1, fields.period_max + 1]);
+                    let less = r.below(rules::enough(&self.values) as u64 + 1) as usize;
+                    self.places = r.pick(&[less, 0, 1, 19, 20]);
                 }
+                9 => self.room = r.below(BLOCK as u64) as usize,
+                10 => self.period = r.pick(&[fields.period_min - 1, fields.period_max + 1]),
                 _ => self.spoil_count(r),
             }
         }
@@ -173,11 +179,18 @@ impl Call {
         }
     }
 
-    /// As many samples as can be counted, or almost as many, before the block.
+    /// As many samples as can be counted, or almost as many, before the block: before all its pairs, or before those that it has
+    /// places for.
     fn spoil_count(&mut self, r: &mut Random) {
-        let pairs = (self.values.len() / 2) as i64;
+        let pairs = self.values.len() / 2;
+        let more = r.pick(&[pairs, pairs.min(self.places / SYMBOL)]) as i64;
         if let Some(samples) = self.state.get_mut(9) {
-            *samples = i64::MAX - (pairs + r.between(-2, 2)).max(0);
+            *samples = i64::MAX - (more + r.between(-2, 2)).max(0);
         }
     }
+}
+
+/// Places that are enough for any answer.
+pub fn any_room(r: &mut Random) -> usize {
+    BLOCK + r.below(5) as usize
 }

@@ -3,8 +3,8 @@
 
 use crate::calls::Call;
 use archive_calls::Sheet;
-use huntelm::archive::{STATE, SYMBOL};
-use oracle::reading::Reading;
+use huntelm::archive::{BLOCK, STATE, SYMBOL};
+use oracle::reading::{Block, Reading};
 use oracle::sheet::{FIELDS, Sheet as Fields};
 use oracle::state::State;
 
@@ -76,17 +76,15 @@ pub fn start(reading: Result<&Reading, Number>, call: &Call) -> Result<Vec<i64>,
     }
 }
 
-/// The state's numbers after a block, and what it writes.
-pub fn block(
-    reading: Result<&Reading, Number>,
-    call: &Call,
-) -> Result<(Vec<i64>, Vec<i64>), Number> {
+/// What a block leaves. That its answer has too few places is the last that is looked at.
+pub fn block(reading: Result<&Reading, Number>, call: &Call) -> Result<Block, Number> {
     let reading = reading?;
     let state = state_of(&call.state).ok_or(9u32)?;
     let block = reading.block(&state, &call.values, call.places);
     match block.refusal.first() {
         Some(number) => Err(*number as Number),
-        None => Ok((block.state.numbers(), block.output)),
+        None if call.room < BLOCK => Err(11),
+        None => Ok(block),
     }
 }
 

@@ -1,14 +1,14 @@
 //! A run from a fresh start, through the archive and by isdb-rs, or by the reading of docs/RULES.md under a delay that isdb-rs was not built with, in blocks of
-//! all sizes; and what comes of its end state when it is changed.
+//! all sizes and with outputs that are too short for them; and what comes of its end state when it is changed.
 
-use crate::calls::Call;
+use crate::calls::{Call, any_room};
 use crate::lent::Lent;
-use crate::rules;
 use crate::tally::Tally;
 use archive_calls::Sheet;
-use huntelm::archive::{STATE, SYMBOL};
+use huntelm::archive::{BLOCK, STATE, SYMBOL};
 use oracle::front::Front;
 use oracle::generate::Samples;
+use oracle::outputs::{self, Outputs};
 use oracle::random::Random;
 use oracle::reading::Reading;
 use oracle::sheet::Sheet as Fields;
@@ -49,10 +49,11 @@ impl<'a> Run<'a> {
     pub fn go_on(&mut self, pairs: u64, samples: &mut Samples) {
         let mut left = pairs;
         while left > 0 {
-            let size = self.block_size().min(left);
+            let outputs = Outputs::any(self.r);
+            let size = self.block_size(outputs).min(left);
             left -= size;
             let block: Vec<[i16; 2]> = (0..size).map(|_| samples.next(self.r)).collect();
-            self.block(&block);
+            self.offer(&block, outputs);
             if left == 0 || self.r.one_in(4) {
                 self.look();
             }
@@ -62,7 +63,11 @@ impl<'a> Run<'a> {
         }
     }
 
-    fn block_size(&mut self) -> u64 {
+    /// Pairs of a block. One that is taken a pair or two at a time has few, since each call judges the sheet.
+    fn block_size(&mut self, outputs: Outputs) -> u64 {
+        if outputs == Outputs::Tiny {
+            return self.r.below(200);
+        }
         match self.r.below(8) {
             0 => self.r.below(3),
             1 | 2 => self.r.below(30),
@@ -71,23 +76,64 @@ impl<'a> Run<'a> {
         }
     }
 
-    fn block(&mut self, block: &[[i16; 2]]) {
-        let values = block.as_flattened();
-        let places = rules::enough(values) + self.r.pick(&[0, 0, 1, 19, 45, 3000]);
+    /// Offers a block, and again what is left of it, until all of it is taken. Now and then the output has thousands of places
+    /// more.
+    fn offer(&mut self, block: &[[i16; 2]], outputs: Outputs) {
+        let mut rest = block;
+        loop {
+            let more = if self.r.one_in(16) { 3000 } else { 0 };
+            let places = outputs.places(self.r, rest.len()) + more;
+            let taken = self.block(rest, places);
+            rest = &rest[taken..];
+            if rest.is_empty() {
+                return;
+            }
+            if self.r.one_in(64) {
+                self.look();
+            }
+        }
+    }
+
+    /// A block, and how many pairs it takes. Now and then its answer has too few places, which refuses it.
+    fn block(&mut self, pairs: &[[i16; 2]], places: usize) -> usize {
+        let values = pairs.as_flattened();
+        let room = match self.r.one_in(16) {
+            true => self.r.below(BLOCK as u64) as usize,
+            false => any_room(self.r),
+        };
         let mut output = Lent::any(places, self.r);
+        let mut answer = Lent::any(room, self.r);
         self.state.keep();
-        let count = self
-            .sheet
-            .lent()
-            .block(self.state.places(), values, output.places());
-        let symbols = self.front.process(block);
-        let made = symbols.len() / SYMBOL;
-        self.tally.samples += block.len() as u64;
-        self.tally.symbols += made as u64;
-        self.tally.answer(
-            "a block of a run",
-            count == made as i64 && output.begins_with(&symbols) && self.state.is_kept_around(),
+        let number = self.sheet.lent().block(
+            self.state.places(),
+            values,
+            output.places(),
+            answer.places(),
         );
+        self.tally.refusal(number);
+        let taken = match outputs::taken(values.len(), places) {
+            Ok(_) if room < BLOCK => Err(11),
+            taken => taken,
+        };
+        match taken {
+            Err(right) => {
+                let untouched =
+                    self.state.is_untouched() && output.is_untouched() && answer.is_untouched();
+                self.tally
+                    .answer("a refused block of a run", number == right && untouched);
+                0
+            }
+            Ok(taken) => {
+                let symbols = self.front.process(&pairs[..taken]);
+                let made = symbols.len() / SYMBOL;
+                let right = output.begins_with(&symbols)
+                    && answer.begins_with(&[made as i64, taken as i64])
+                    && self.state.is_kept_around();
+                self.tally.block(pairs.len(), taken, made);
+                self.tally.answer("a block of a run", number == 0 && right);
+                taken
+            }
+        }
     }
 
     /// The state, what is read of it, and the offset of its period. isdb-rs shows its state as a long text only, so this is done after some blocks and not
@@ -135,7 +181,7 @@ impl<'a> Run<'a> {
                 let Some(after) = call.block(Ok(&reading), self.tally, self.r) else {
                     break;
                 };
-                state = rules::state_of(&after).expect("a state that was handed back");
+                state = after;
             }
         }
     }

@@ -11,7 +11,9 @@ pub struct Tally {
     pub compared: u64,
     pub differed: u64,
     pub samples: u64,
-    pub symbols: u64,
+    symbols: u64,
+    /// Blocks that took fewer pairs than they were offered.
+    cut: u64,
     /// How many calls were refused by which number.
     refused: BTreeMap<u32, u64>,
     /// States that were changed between two calls.
@@ -33,6 +35,13 @@ impl Tally {
         }
     }
 
+    /// Counts a block that is not refused.
+    pub fn block(&mut self, offered: usize, taken: usize, symbols: usize) {
+        self.samples += taken as u64;
+        self.symbols += symbols as u64;
+        self.cut += u64::from(taken < offered);
+    }
+
     /// Counts a refusal; 0 is none.
     pub fn refusal(&mut self, number: u32) {
         if number != 0 {
@@ -44,11 +53,12 @@ impl Tally {
         let of = |(number, calls): (&u32, &u64)| format!("{calls} by {number}");
         let refused: Vec<String> = self.refused.iter().map(of).collect();
         println!(
-            "{} compared, {} differed; {} samples, {} symbols, {} changed states, calls refused {}",
+            "{} compared, {} differed; {} samples, {} symbols, {} blocks cut by their output, {} changed states, calls refused {}",
             self.compared,
             self.differed,
             self.samples,
             self.symbols,
+            self.cut,
             self.changed,
             refused.join(", ")
         );

@@ -11,6 +11,7 @@ pub mod generate;
 pub mod inputs;
 pub mod leaves;
 pub mod offsets;
+pub mod outputs;
 pub mod path;
 pub mod program;
 pub mod random;

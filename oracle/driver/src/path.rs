@@ -1,9 +1,11 @@
-//! Runs from a fresh start, cut into blocks at random. What isdb-rs answers is held against the reading of docs/RULES.md
-//! before it is written, and a difference ends the driver: no row is written that only one of the two stands for. Calls
-//! that are refused have no counterpart in isdb-rs and are the reading's alone.
+//! Runs from a fresh start, cut into blocks at random, and by outputs that are too short for a block. What isdb-rs answers is
+//! held against the reading of docs/RULES.md before it is written, and a difference ends the driver: no row is written that
+//! only one of the two stands for. isdb-rs has no output that is too short and refuses no block: it is given the pairs that a
+//! call takes.
 
 use crate::front::{DELAY, Rust};
 use crate::generate::{self, Samples};
+use crate::outputs::{self, Outputs};
 use crate::random::Random;
 use crate::reading::{Reading, SYMBOL};
 use crate::rows::Rows;
@@ -35,6 +37,7 @@ pub fn write(kind: &str, seed: u64, count: u64, output: &mut impl Write) -> io::
 }
 
 struct Run<'a, 'b, W> {
+    sheet: &'a Sheet,
     rows: &'a mut Rows<'b, W>,
     /// isdb-rs's front end; there is none under a sheet that is refused.
     front: Option<Rust>,
@@ -49,6 +52,7 @@ impl<'a, 'b, W: Write> Run<'a, 'b, W> {
         rows.sheet(sheet)?;
         rows.started(reading.refusal())?;
         let mut run = Self {
+            sheet,
             state: reading.start(),
             rows,
             front: Rust::start(sheet),
@@ -58,52 +62,89 @@ impl<'a, 'b, W: Write> Run<'a, 'b, W> {
         Ok(run)
     }
 
-    /// Runs so many pairs, with refused calls between the blocks now and then.
+    /// Runs so many pairs, block after block.
     fn go_on(&mut self, pairs: u64, samples: &mut Samples, r: &mut Random) -> io::Result<()> {
+        let mut all = Vec::new();
         let mut left = pairs;
         while left > 0 {
-            let size = block_size(r, pairs).min(left);
+            let outputs = Outputs::any(r);
+            let size = block_size(r, pairs, outputs).min(left);
             left -= size;
             let values: Vec<i16> = (0..size).flat_map(|_| samples.next(r)).collect();
-            if r.one_in(8) {
-                self.odd_block(r)?;
-            }
-            self.rows.values(&values)?;
-            let enough = SYMBOL * size as usize;
-            if enough > 0 && r.one_in(8) {
-                self.block(&values, enough - r.pick(&[1, 1, SYMBOL, enough]))?;
-            }
-            self.block(&values, enough + r.pick(&[0, 0, 1, 19, 45]))?;
+            self.offer(&values, outputs, r)?;
             if left == 0 || r.one_in(3) {
                 self.tell_state()?;
                 self.read()?;
             }
+            all.extend(values);
         }
-        Ok(())
+        self.end(&all)
     }
 
-    /// A block whose last value has no partner.
-    fn odd_block(&mut self, r: &mut Random) -> io::Result<()> {
-        let values: Vec<i16> = (0..=2 * r.below(8)).map(|_| r.next() as i16).collect();
-        self.rows.values(&values)?;
-        self.block(&values, r.pick(&[0, 19, SYMBOL * values.len()]))?;
+    /// Offers values, and again what is left of them, until all are taken, with refused calls before some blocks. Under a sheet
+    /// that is refused no value ever is.
+    fn offer(&mut self, values: &[i16], outputs: Outputs, r: &mut Random) -> io::Result<()> {
+        let mut rest = values;
+        loop {
+            if r.one_in(12) {
+                self.odd_block(rest, r)?;
+            }
+            self.rows.values(rest)?;
+            let taken = self.block(rest, outputs.places(r, rest.len() / 2))?;
+            rest = &rest[2 * taken..];
+            if rest.is_empty() || self.front.is_none() {
+                return Ok(());
+            }
+            if r.one_in(16) {
+                self.tell_state()?;
+            }
+        }
+    }
+
+    /// Some of the values or all, but for one, so that the last has no partner: refused whole, though the output may well be for
+    /// the pairs before it.
+    fn odd_block(&mut self, values: &[i16], r: &mut Random) -> io::Result<()> {
+        let some = values.len().min(2 * r.below(8) as usize);
+        let mut odd = values[..r.pick(&[some, values.len()])].to_vec();
+        if odd.pop().is_none() {
+            odd.push(r.next() as i16);
+        }
+        self.rows.values(&odd)?;
+        let enough = SYMBOL * odd.len().div_ceil(2);
+        self.block(&odd, r.pick(&[0, 19, 20, 45, enough]))?;
         if r.one_in(2) {
             self.tell_state()?;
         }
         Ok(())
     }
 
-    fn block(&mut self, values: &[i16], places: usize) -> io::Result<()> {
+    /// A block, and how many pairs it took.
+    fn block(&mut self, values: &[i16], places: usize) -> io::Result<usize> {
         let block = self.reading.block(&self.state, values, places);
-        if let Some(front) = &mut self.front
-            && block.refusal.is_empty()
-        {
-            let symbols = front.process(values.as_chunks().0);
+        if let Some(front) = &mut self.front {
+            let taken = outputs::taken(values.len(), places);
+            let (pairs, refusal) = match taken {
+                Ok(taken) => (taken, Vec::new()),
+                Err(number) => (0, vec![number.into()]),
+            };
+            same("what refuses a block", &refusal, &block.refusal)?;
+            same("the pairs taken", &[pairs as i64], &[block.taken as i64])?;
+            let symbols = front.process(&values.as_chunks().0[..pairs]);
             same("symbols", &symbols, &block.output)?;
         }
         self.rows.block(places, &block)?;
         self.state = block.state;
-        Ok(())
+        Ok(block.taken)
+    }
+
+    /// isdb-rs once more, on all pairs in one block: by how many calls they were taken has changed nothing.
+    fn end(&self, values: &[i16]) -> io::Result<()> {
+        let Some(mut whole) = Rust::start(self.sheet) else {
+            return Ok(());
+        };
+        whole.process(values.as_chunks().0);
+        let end = whole.state().numbers();
+        same("the end state", &end, &self.state.numbers())
     }
 
     /// The state in force, as the answer that it is.
@@ -124,8 +165,12 @@ impl<'a, 'b, W: Write> Run<'a, 'b, W> {
     }
 }
 
-/// Blocks of no pair and of one, short ones, some of up to a third of the run, and some that may be all that is left.
-fn block_size(r: &mut Random, pairs: u64) -> u64 {
+/// Blocks of no pair and of one, short ones, some of up to a third of the run, and some that may be all that is left. Those that
+/// are taken a pair or two at a time are all short.
+fn block_size(r: &mut Random, pairs: u64, outputs: Outputs) -> u64 {
+    if outputs == Outputs::Tiny {
+        return r.below(31);
+    }
     match r.below(8) {
         0 => 0,
         1 => 1,

@@ -23,6 +23,8 @@ pub struct Block {
     pub state: State,
     /// What it writes, from the first place on.
     pub output: Vec<i64>,
+    /// How many pairs it took: none where it is refused.
+    pub taken: usize,
     pub refusal: Vec<i64>,
 }
 
@@ -87,20 +89,25 @@ impl<'a> Reading<'a> {
         }
     }
 
-    /// A block of sample values on a state, into an output of so many places.
+    /// A block of sample values on a state, into an output of so many places. Pairs behind those that it takes are not
+    /// looked at.
     pub fn block(&self, state: &State, values: &[i16], places: usize) -> Block {
+        let refusal = self.block_refusal(state, values.len(), places);
+        let taken = match refusal[..] {
+            [] => fitting(values.len() / 2, places),
+            _ => 0,
+        };
         let mut block = Block {
             state: state.clone(),
             output: Vec::new(),
-            refusal: self.block_refusal(state, values.len(), places),
+            taken,
+            refusal,
         };
-        if block.refusal.is_empty() {
-            for pair in values.chunks(2) {
-                let pair = [pair[0].into(), pair[1].into()];
-                if let Some(symbol) = self.sample(&mut block.state, pair) {
-                    let symbol = symbol.map(|n| i64::try_from(n).expect("64 bits hold it"));
-                    block.output.extend(symbol);
-                }
+        for pair in values.chunks(2).take(taken) {
+            let pair = [pair[0].into(), pair[1].into()];
+            if let Some(symbol) = self.sample(&mut block.state, pair) {
+                let symbol = symbol.map(|n| i64::try_from(n).expect("64 bits hold it"));
+                block.output.extend(symbol);
             }
         }
         block
@@ -123,14 +130,14 @@ impl<'a> Reading<'a> {
 
     fn block_refusal(&self, state: &State, values: usize, places: usize) -> Vec<i64> {
         let refusal = self.state_refusal(state);
-        let pairs = values / 2;
+        let fitting = fitting(values / 2, places) as i128;
         if !refusal.is_empty() {
             refusal
         } else if !values.is_multiple_of(2) {
             vec![10]
-        } else if places < SYMBOL * pairs {
+        } else if values > 0 && places < SYMBOL {
             vec![11]
-        } else if state.samples + pairs as i128 > (1 << 63) - 1 {
+        } else if state.samples + fitting > (1 << 63) - 1 {
             vec![12]
         } else {
             Vec::new()
@@ -156,5 +163,15 @@ impl<'a> Reading<'a> {
             && state.waiting == state.symbols.min(sheet.delay.into())
             && (0..RING as i128).contains(&state.oldest)
             && state.symbols <= state.samples
+    }
+}
+
+/// How many of so many pairs an output of so many places is for: all of them where each has the places of a symbol, else as
+/// many as have. That fewer symbols than pairs come makes room for no more.
+fn fitting(pairs: usize, places: usize) -> usize {
+    if places < SYMBOL * pairs {
+        places / SYMBOL
+    } else {
+        pairs
     }
 }

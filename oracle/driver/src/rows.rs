@@ -74,8 +74,9 @@ impl<'a, W: Write> Rows<'a, W> {
 
     /// A block into so many places, and what it wrote there.
     pub fn block(&mut self, places: usize, block: &Block) -> io::Result<()> {
+        let (symbols, taken) = (block.count(), block.taken);
         let refusal = answer(&block.refusal);
-        writeln!(self.output, "10,{places},{},{refusal}", block.count())?;
+        writeln!(self.output, "10,{places},{symbols},{taken},{refusal}")?;
         for (n, part) in block.output.chunks(OUTPUT).enumerate() {
             writeln!(self.output, "11,{},{}", n * OUTPUT, joined(part))?;
         }

@@ -41,7 +41,8 @@ fn calls(
 ) -> io::Result<()> {
     rows.give(&state)?;
     for _ in 0..r.pick(&[1, 1, 1, 2]) {
-        let (values, places) = any_block(r);
+        let values = any_values(r);
+        let places = any_places(r, values.len() / 2, countable(&state));
         let block = reading.block(&state, &values, places);
         rows.values(&values)?;
         rows.block(places, &block)?;
@@ -51,18 +52,33 @@ fn calls(
     rows.read(&reading.read(&state))
 }
 
-/// A short block, now and then of an odd number of values or with too few places, and places for its output.
-fn any_block(r: &mut Random) -> (Vec<i16>, usize) {
+/// A short block, now and then an empty one, or one of an odd number of values.
+fn any_values(r: &mut Random) -> Vec<i16> {
     let odd = u64::from(r.one_in(8));
-    let values: Vec<i16> = (0..2 * r.below(13) + odd).map(|_| any_value(r)).collect();
-    let enough = SYMBOL * (values.len() / 2);
-    let places = match r.below(8) {
-        0 => enough.saturating_sub(1),
+    let pairs = if r.one_in(8) { 0 } else { r.below(13) };
+    (0..2 * pairs + odd).map(|_| any_value(r)).collect()
+}
+
+/// Places for the output of so many pairs, on a state that lets so many be counted: few, enough, far more than the pairs need, or
+/// such that what is taken can just be counted or is one pair off that.
+fn any_places(r: &mut Random, pairs: usize, countable: usize) -> usize {
+    let enough = SYMBOL * pairs;
+    match r.below(8) {
+        0 => r.pick(&[0, 1, 19, 20, 21, 39, 40]),
         1 => r.below(enough as u64 + 1) as usize,
         2 => enough + r.below(45) as usize,
+        3 => enough + 400 + r.below(1500) as usize,
+        4..=6 if countable < pairs => {
+            let taken = r.pick(&[countable.saturating_sub(1), countable, countable + 1]);
+            SYMBOL * taken + r.pick(&[0, 0, 1, 19])
+        }
         _ => enough,
-    };
-    (values, places)
+    }
+}
+
+/// How many more samples can be counted.
+fn countable(state: &State) -> usize {
+    usize::try_from(i128::from(LAST) - state.samples).unwrap_or(0)
 }
 
 fn any_value(r: &mut Random) -> i16 {
