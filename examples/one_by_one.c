@@ -143,7 +143,7 @@ static uint32_t take(struct receiver *rx, const int16_t *values, size_t left) {
     return HUNTELM_ACCEPTED;
 }
 
-/* Reads the sheet with its banks and starts. */
+/* Reads the sheet with its banks and starts. Answers 1, or 0 where something is wrong, which it reports. */
 static int start(struct receiver *rx, struct recording *r) {
     size_t taps;
     uint32_t refused;

@@ -229,8 +229,8 @@ uint32_t huntelm_start(const int64_t *sheet, size_t sheet_len, const int32_t *h,
  * A call that is offered a pair and is not refused takes at least one, so the loop comes to its end. That is proved.
  *
  * The call takes values_len / 2 or out_len / 20 pairs, whichever is less, both rounded down. It takes the state further, writes 20 places for each symbol to
- * out, one symbol after the other, and leaves the places behind them as they were. To answer, which has at least 4 places, it writes how many symbols these are
- * and how many pairs it took; both may be 0, and the other places stay as they were (enum huntelm_block_place). Answers 0.
+ * out, one symbol after the other, and leaves the places behind them as they were. To answer, which has at least 4 places, it writes how many symbols these
+ * are, which may be 0, and how many pairs it took; the other places stay as they were (enum huntelm_block_place). Answers 0.
  *
  * With 20 places for each pair it takes all. With fewer everything is as if it had been lent only the pairs that it takes. A pair gives one symbol at most and
  * often none, so places may be left; it does not go on until out is full.

@@ -33,12 +33,13 @@ pub extern "C" fn huntelm_block(
     state: &mut [i64],
     values: &[i16],
     out: &mut [i64],
-) -> i64
-    ensures { λ r. ⌜ record { result = r; state = now (state .exit); output = now (out .exit) }
+    answer: &mut [i64],
+) -> u32
+    ensures { λ r. ⌜ record { number = r; state = now (state .exit); output = now (out .exit); answer = now (answer .exit) }
         ≡ blockAnswer (now (sheet .entry)) (now (h .entry)) (now (g .entry)) (now (k .entry))
-        (now (state .entry)) (now (values .entry)) (now (out .entry)) ⌝ }
+        (now (state .entry)) (now (values .entry)) (now (out .entry)) (now (answer .entry)) ⌝ }
 {
-    calls::block(sheet, h, g, k, state, values, out)
+    calls::block(sheet, h, g, k, state, values, out, answer)
 }
 
 #[no_mangle]

@@ -1,36 +1,34 @@
--- How answers cross: the first number that is not 0, numbers below zero, and what starting and a block leave that fits places again.
-use Prim.Native.Nat.{ℕ, _^_, _≤_, _<_}
+-- How answers cross: the first number that is not 0, and what starting and a block leave that fits places again. A count of samples is at most 2^63 - 1 where
+-- nothing is refused, and the others are below it.
+use Prim.Native.Nat.{ℕ, _≤_, _<_}
 use mathlib.Core.Path.{_≡_, refl, sym, ap, subst, _∙_}
 use mathlib.Core.Bool.{Bool, true, false, cond}
 use mathlib.Core.List.{List, [], _∷_}
 use native.Mathlib.Omega.{arith}
 use lib.Dec.{eqb}
-use lib.ListN.{length, length-append}
-use lib.IntN.{ℤ, pos, negℤ, _-ℤ_, +ℤ-idl}
-use mir.Syntax.{w64}
-use mir.Val.{SFits, toZ, ofZ}
-use mir.Facts.{toZ-ofZ}
+use lib.ListN.{length, take, length-append}
+use lib.Seq.{length-take-le}
+use lib.IntN.{ℤ}
 use borrow.Author.Tests.{eq-eqb, ne-eqb, eqb-true, eqb-false}
-use Rattle.arith.proofs.Magnitude.{abs-neg}
-use Rattle.arith.proofs.Bits.{sfit, whole}
 use Rattle.kinds.specs.Answer.{answered, firstNumber}
 use Rattle.kinds.proofs.Answered.{first-is, then-is}
 use Rattle.params.specs.Refusal.{Refusal, firstOf}
 use Rattle.params.specs.Judge.{Sheet, faults, judged}
-use Rattle.params.proofs.Faults.{Numbered, faults-numbered, first-none}
+use Rattle.params.proofs.Faults.{Numbered, faults-numbered}
 use Rattle.params.proofs.Accepted.{no-faults as accepted-sheet}
 use Rattle.state.specs.declared.Pair.{Pair}
 use Rattle.state.specs.declared.Frontend.{Frontend}
 use Rattle.state.specs.Start.{atRest, startOf, fresh}
 use Rattle.fixed.specs.Sample.{falls, madeBy, next, after, emitted}
 use Rattle.fixed.specs.Block.{Block, pairsOf, accepted, blockOf}
-use Rattle.state.specs.Check.{goodState, stateFaults, blockFaults}
+use Rattle.state.specs.Check.{goodState, stateFaults, pairsTaken, blockFaults}
 use Rattle.state.specs.Read.{readOf}
 use Rattle.state.proofs.Going.{Going, going}
 use Rattle.fixed.proofs.States.{run-going}
 use Rattle.fixed.proofs.Runs.{run-samples}
 use Rattle.fixed.proofs.Turns.{pairs-long}
-use Rattle.state.proofs.Verdicts.{block-numbered, state-refuses, Faultless, faultless}
+use Rattle.fixed.proofs.Refused.{number-first, no-faults, ran}
+use Rattle.state.proofs.Verdicts.{state-refuses, Faultless, faultless}
 use Rattle.places.specs.States.{stateFits, stateOf, readState, hasPlaces}
 use Rattle.places.proofs.Placed.{Placed, has-places}
 use Rattle.calls.specs.Calls.{stateNumber}
@@ -91,13 +89,10 @@ reading-first s f = go (eqb (firstOf (stateFaults s f) .number) 0) refl
     go false e = rw e refl
 
 block-of-zeros : (s : Sheet) (values out : List ℤ) → blockOf s (atRest 0 0) values out .refused .number ≡ firstNumber (judged s .number) 9
-unfolding blockOf
 block-of-zeros s values out =
     let h : firstOf (stateFaults s (atRest 0 0)) .number ≡ 0 → ⊥ = nine (judged s .number) (zeros-refused s) in
     let is = state-refuses s (atRest 0 0) (length values) (length out) (omega arith) refl in
-    let number : firstOf (blockFaults s (atRest 0 0) (length values) (length out)) .number ≡ firstNumber (judged s .number) 9 =
-    ap (λ (r : Refusal). r .number) (sym is) ∙ zeros-refused s in
-    rw (ne-eqb (firstOf (blockFaults s (atRest 0 0) (length values) (length out)) .number) 0 (nine (judged s .number) number)) number
+    number-first s (atRest 0 0) values out ∙ ap (λ (r : Refusal). r .number) (sym is) ∙ zeros-refused s
 
 module _ (s : Sheet) (state : List ℤ) where
   -- what refuses the state that is read of any places is what refuses the places, and then the state that they say
@@ -137,17 +132,6 @@ module _ (s : Sheet) (state : List ℤ) where
 pub then-answer : (a b : ℕ) (written places : List ℤ) → a ≡ 0 → answered (firstNumber a b) written places ≡ answered b written places
 then-answer a b written places z = rw (eq-eqb a 0 z) refl
 
--- ---- a number below zero
-
-minus-is : (n : ℕ) → n < 2 ^ 32 → pos 0 -ℤ toZ w64 n ≡ negℤ (pos n)
-minus-is n f = rw (whole n (record { fits = f })) (+ℤ-idl (negℤ (pos n)))
-
-pub minus-fits : (n : ℕ) → n < 2 ^ 32 → SFits w64 (pos 0 -ℤ toZ w64 n)
-minus-fits n f = rw (minus-is n f) (sfit (omega (arith, abs-neg (pos n))))
-
-pub minus-read : (n : ℕ) → n < 2 ^ 32 → toZ w64 (ofZ w64 (pos 0 -ℤ toZ w64 n)) ≡ negℤ (pos n)
-minus-read n f = toZ-ofZ (minus-fits n f) ∙ minus-is n f
-
 -- ---- a state that starting gives has places
 
 pub started-placed : (s : Sheet) → hasPlaces (startOf s .state) ≡ true
@@ -177,41 +161,25 @@ few s f (x ∷ xs) = omega (arith, length-append (madeBy s f x) (emitted s (next
 -- what a block without a refusal leaves
 pub record Left (b : Block) : Type 0 where
   pub placed : hasPlaces (b .state) ≡ true
+  pub taken : b .taken ≤ 9223372036854775807
   pub counted : b .count ≤ 9223372036854775807
 
 module _ (s : Sheet) (f : Frontend) (values out : List ℤ) where
-  abbrev faulty : List Refusal
-  faulty = blockFaults s f (length values) (length out)
-
   -- a number other than 0: nothing was written
   pub untouched : (blockOf s f values out .refused .number ≡ 0 → ⊥) → blockOf s f values out .output ≡ out
-  unfolding blockOf accepted
-  untouched h = go (eqb (firstOf faulty .number) 0) refl
-    where
-      go : (b : Bool) → eqb (firstOf faulty .number) 0 ≡ b → blockOf s f values out .output ≡ out
-      go true e = absurd (h (rw e refl))
-      go false e = rw e refl
-
-  no-faults : blockOf s f values out .refused .number ≡ 0 → faulty ≡ []
   unfolding blockOf
-  no-faults h = go (eqb (firstOf faulty .number) 0) refl
-    where
-      go : (b : Bool) → eqb (firstOf faulty .number) 0 ≡ b → faulty ≡ []
-      go true e = first-none faulty (block-numbered s f (length values) (length out)) (eqb-true _ 0 e)
-      go false e = absurd (eqb-false _ 0 e (rw e at h))
-
-  ran : blockOf s f values out .refused .number ≡ 0 → blockOf s f values out ≡ accepted s f values out
-  unfolding blockOf
-  ran h = rw (no-faults h) refl
+  untouched h = rw (ne-eqb _ 0 (λ z. h (number-first s f values out ∙ z))) refl
 
   pub left : blockOf s f values out .refused .number ≡ 0 → Left (blockOf s f values out)
-  unfolding accepted
-  left h =
-      let g : Faultless s f (length values) (length out) = faultless s f (length values) (length out) (no-faults h) in
-      let xs : List Pair = pairsOf values in
+  unfolding accepted pairsTaken
+  left none =
+      let g : Faultless s f (length values) (length out) = faultless s f (length values) (length out) (no-faults s f values out none) in
+      let n : ℕ = pairsTaken (length values) (length out) in
+      let xs : List Pair = take n (pairsOf values) in
+      let long : length xs ≡ n = length-take-le n (pairsOf values) (omega (arith, pairs-long values)) in
       let to : Going (s .params) (after s f xs) = run-going s (g .sheet) f xs (going (s .params) f (g .good)) in
-      let samples : after s f xs .samples ≤ 9223372036854775807 = omega (arith, run-samples s f xs, pairs-long values, g .sizes .few) in
-      rw (ran h)
+      let samples : after s f xs .samples ≤ 9223372036854775807 = omega (arith, run-samples s f xs, long, g .sizes .few) in
+      rw (ran s f values out none)
       (record {
         placed = has-places (after s f xs) (record {
           symbols = omega (arith, to .few);
@@ -220,5 +188,6 @@ module _ (s : Sheet) (f : Frontend) (values out : List ℤ) where
           waiting = omega (arith, to .waiting);
           samples = samples;
         });
-        counted = omega (arith, few s f xs, pairs-long values, g .sizes .few);
+        taken = omega (arith, g .sizes .few);
+        counted = omega (arith, few s f xs, long, g .sizes .few);
       })

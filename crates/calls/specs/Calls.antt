@@ -7,7 +7,7 @@ use mathlib.Core.Bool.{cond}
 use mathlib.Core.List.{List, _∷_, _++_}
 use lib.Dec.{eqb, leb}
 use lib.ListN.{length, drop}
-use lib.IntN.{ℤ, pos, negℤ}
+use lib.IntN.{ℤ, pos}
 use lib.Ieee.{Float}
 use Rattle.kinds.specs.Answer.{Answer, answered, firstNumber}
 use Rattle.params.specs.declared.Params.{Params}
@@ -40,21 +40,24 @@ startAnswer l h g k state =
 unfoldable pub stateNumber : Sheet → List ℤ → ℕ
 stateNumber s state = cond (stateFits state) 0 (firstNumber (judged s .number) 9)
 
--- What a block answers, and what it leaves of the state's places and in the output.
+-- What a block answers, and what it leaves in the places of the state, of the output and of the answer that were lent.
 pub record BlockAnswer : Type 0 where
-  pub result : ℤ
+  pub number : ℕ
   pub state : List ℤ
   pub output : List ℤ
+  pub answer : List ℤ
 
--- A block: 18 and 19, 1 to 8, 29, 9, 10 to 12. It answers how many symbols it wrote, or the refusal's number below zero.
-unfoldable pub blockAnswer : List ℤ → List ℤ → List ℤ → List ℤ → List ℤ → List ℤ → List ℤ → BlockAnswer
-blockAnswer l h g k state values out =
+-- A block: 18 and 19, 1 to 8, 29, 9, 10 to 12, then 11 where there are fewer than four places for the answer. How many symbols it wrote and how many pairs it
+-- took stand in the first two; the others stay as they were.
+unfoldable pub blockAnswer : List ℤ → List ℤ → List ℤ → List ℤ → List ℤ → List ℤ → List ℤ → List ℤ → BlockAnswer
+blockAnswer l h g k state values out answer =
     let s : Sheet = sheetAt l h g k in
     let b : Block = blockOf s (stateOf state) values out in
-    let n : ℕ = firstNumber (sheetNumber l) (firstNumber (stateNumber s state) (b .refused .number)) in
+    let room : ℕ = cond (leb 4 (length answer)) 0 11 in
+    let n : ℕ = firstNumber (sheetNumber l) (firstNumber (stateNumber s state) (firstNumber (b .refused .number) room)) in
     cond (eqb n 0)
-    (record { result = pos (b .count); state = numbersOf (b .state); output = b .output })
-    (record { result = negℤ (pos n); state = state; output = out })
+    (record { number = 0; state = numbersOf (b .state); output = b .output; answer = pos (b .count) ∷ pos (b .taken) ∷ drop 2 answer })
+    (record { number = n; state = state; output = out; answer = answer })
 
 -- Reading: 18 and 19, 1 to 8, 29, 9, then 11 where there are fewer than three places for period, gain and symbols.
 unfoldable pub readAnswer : List ℤ → List ℤ → List ℤ → List ℤ → List ℤ → List ℤ → Answer

@@ -42,8 +42,8 @@ pub fn start(sheet: &[i64], h: &[i32], g: &[i32], k: &[i32], state: &mut [i64]) 
     }
 }
 
-// Takes a block of samples, I before Q, from the state on; writes 20 places a symbol and the state after it (RULES 4). Answers
-// how many symbols it wrote, or the refusal's number below zero.
+// Takes a block of samples, I before Q, from the state on, as many of them as the output has places for; writes 20 places a symbol, the state after it, and
+// how many symbols it wrote and pairs it took to the first two of four places (RULES 4).
 pub fn block(
     sheet: &[i64],
     h: &[i32],
@@ -52,25 +52,38 @@ pub fn block(
     state: &mut [i64],
     values: &[i16],
     out: &mut [i64],
-) -> i64
-    ensures { λ r. ⌜ record { result = r; state = now (state .exit); output = now (out .exit) }
+    answer: &mut [i64],
+) -> u32
+    ensures { λ r. ⌜ record { number = r; state = now (state .exit); output = now (out .exit); answer = now (answer .exit) }
         ≡ blockAnswer (now (sheet .entry)) (now (h .entry)) (now (g .entry)) (now (k .entry))
-        (now (state .entry)) (now (values .entry)) (now (out .entry)) ⌝ }
+        (now (state .entry)) (now (values .entry)) (now (out .entry)) (now (answer .entry)) ⌝ }
 {
     match places::read_sheet(sheet) {
-        ReadSheet::Refused(number) => 0 - number as i64,
+        ReadSheet::Refused(number) => number,
         ReadSheet::Sheet(p) => {
             let before = places::read_state(&*state);
+            // Without places for the answer the block is not run: what it would refuse comes first, and then nothing may be written.
+            if answer.len() < 4 {
+                let refused = before
+                    .check_block(p, h, g, k, values.len(), out.len())
+                    .number();
+                if refused != 0 {
+                    return refused;
+                }
+                return 11;
+            }
             let done = fixed::process(before, p, h, g, k, values, &mut *out);
             let verdict = done.verdict;
             let refused = verdict.number();
             if refused != 0 {
-                return 0 - refused as i64;
+                return refused;
             }
             // It writes: there are 186 places, and 12 refuses the block after which a count has none.
             let after = done.state;
             places::write_state(after, &mut *state);
-            done.count as i64
+            answer[0] = done.count as i64;
+            answer[1] = done.taken as i64;
+            0
         }
     }
 }

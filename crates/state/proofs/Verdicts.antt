@@ -1,6 +1,6 @@
 -- What a call on a state answers, and what its answer tells of the faults. The faults of a sheet, of a state and of a block's sizes are looked for in this
 -- order, each has a number other than 0, and so an answer of "accepted" says that there is none.
-use Prim.Native.Nat.{ℕ, _+_, _/_, _%_, _≤_, _<_, min}
+use Prim.Native.Nat.{ℕ, _+_, _/_, _≤_, _<_, min}
 use mathlib.Core.Path.{_≡_, refl, sym, ap, _∙_, subst}
 use mathlib.Core.Logic.{_⊎_, inl, inr}
 use mathlib.Core.Bool.{Bool, true, false, _||_}
@@ -118,16 +118,14 @@ sizes-answer s f values places none e = e ∙ sym (first-rest (stateFaults s f) 
 pub state-good : (s : Sheet) (f : Frontend) → stateFaults s f ≡ [] → goodState (s .params) f ≡ true
 state-good s f e = kept (goodState (s .params) f) (refusal 9 []) (none-right (faults s) _ e)
 
--- what is said of a block's sizes: whole pairs, room for a symbol where there are any, and samples that can still be counted
+-- what is said of a block's sizes: room for a symbol where there are values, and samples that can still be counted
 pub record Sized (f : Frontend) (values places : ℕ) : Type 0 where
-  pub whole : values % 2 ≡ 0
   pub room : (values ≡ 0) ⊎ (20 ≤ places)
   pub few : f .samples + pairsTaken values places ≤ 9223372036854775807
 
 pub sized : (f : Frontend) (values places : ℕ) → sizeFaults f values places ≡ [] → Sized f values places
 unfolding sizeFaults
 sized f values places e = record {
-  whole = eqb-true (values % 2) 0 (kept _ _ (none-at _ e 0));
   room = go (eqb values 0) refl (kept _ _ (none-at _ e 1));
   few = leb-true (f .samples + pairsTaken values places) 9223372036854775807 (kept _ _ (none-at _ e 2));
 }

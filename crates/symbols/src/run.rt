@@ -3,6 +3,7 @@ use crate::input::Input;
 use crate::output::Output;
 use crate::sheet::Head;
 use crate::stop::Stop;
+use fixed::Processed;
 use kinds::I16;
 use params::Params;
 use state::Frontend;
@@ -61,7 +62,66 @@ impl Progress {
         stop.is_no()
     }
 
-    // With one block more. Its symbols are printed, whatever stops behind it.
+    fn stopped(self, stop: Stop) -> Progress {
+        let state = self.state;
+        let rest = self.rest;
+        let output = self.output;
+        Progress {
+            state,
+            rest,
+            line: self.line,
+            output,
+            stop,
+        }
+    }
+
+    // With what a call made of the pairs that it took: its symbols are printed.
+    fn with_call(self, done: Processed, places: &[i64], out: &mut [u8]) -> Progress {
+        let before = self.output;
+        let output = before.with_symbols(places, done.count, out);
+        let mut stop = self.stop;
+        if !output.is_good() {
+            stop = Stop::Failed;
+        }
+        let state = done.state;
+        let rest = self.rest;
+        Progress {
+            state,
+            rest,
+            line: std::num::wrapping_add_u64(self.line, done.taken as u64),
+            output,
+            stop,
+        }
+    }
+
+    // With these pairs. A call takes as many as it has places for, so each goes on from what those before it took.
+    fn with_pairs(
+        self,
+        params: Params,
+        h: &[i32],
+        g: &[i32],
+        k: &[i32],
+        values: &[i16],
+        places: &mut [i64],
+        out: &mut [u8],
+    ) -> Progress {
+        let mut next = self;
+        let mut from: usize = 0;
+        while from < values.len() && next.goes_on() {
+            let given = next.state;
+            let done = fixed::process(given, params, h, g, k, &values[from..], places);
+            let verdict = done.verdict;
+            let number = verdict.number();
+            if 0 < number {
+                return next.stopped(Stop::Refused { number, line: 0 });
+            }
+            next = next.with_call(done, places, out);
+            from += 2 * done.taken;
+        }
+        next
+    }
+
+    // With one block more. What stopped the block counts once all its pairs are taken.
     fn with_block(
         self,
         params: Params,
@@ -75,25 +135,18 @@ impl Progress {
     ) -> Progress {
         let block = block_of(self.rest, self.line, values, bytes);
         let used = arith::least(block.used, values.len());
-        let given = self.state;
-        let done = fixed::process(given, params, h, g, k, &values[0..used], places);
-        let state = done.state;
-        let verdict = done.verdict;
-        let number = verdict.number();
-        let before = self.output;
-        let output = before.with_symbols(places, done.count, out);
-        let mut stop = block.stop;
-        if 0 < number {
-            stop = Stop::Refused { number, line: 0 };
-        }
-        if !output.is_good() {
-            stop = Stop::Failed;
-        }
+        let next = self.with_pairs(params, h, g, k, &values[0..used], places, out);
+        let state = next.state;
         let rest = block.rest;
+        let output = next.output;
+        let mut stop = next.stop;
+        if stop.is_no() {
+            stop = block.stop;
+        }
         Progress {
             state,
             rest,
-            line: std::num::wrapping_add_u64(self.line, (used / 2) as u64),
+            line: next.line,
             output,
             stop,
         }

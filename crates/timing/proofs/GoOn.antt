@@ -8,7 +8,6 @@ use mathlib.Core.List.{List, [], _++_, flatten}
 use native.Mathlib.Omega.{arith}
 use lib.Dec.{eqb, leb}
 use lib.ListN.{length}
-use borrow.Author.Tests.{eqb-true}
 use Rattle.params.specs.Refusal.{Refusal, refusal, unless, firstOf}
 use Rattle.params.specs.Judge.{Sheet, faults}
 use Rattle.params.proofs.Accepted.{Accepted, judged-none, no-faults}
@@ -16,7 +15,7 @@ use Rattle.state.specs.declared.Frontend.{Frontend}
 use Rattle.symbol.specs.declared.Symbol.{Symbol}
 use Rattle.state.specs.Start.{startOf}
 use Rattle.state.specs.Check.{goodState, stateFaults, pairsTaken, sizeFaults, blockFaults}
-use Rattle.fixed.specs.Block.{accepted, blockOf}
+use Rattle.fixed.proofs.Refused.{number-first}
 use Rattle.timing.specs.Lists.{Call, answer, endState}
 use Rattle.timing.specs.Timing.{StatesGoOn}
 use Rattle.state.proofs.Going.{Going, good}
@@ -34,18 +33,6 @@ going s a f S i = record {
   oldest = omega arith;
   few = omega arith;
 }
-
--- the number of an answer is that of its first fault
-numbered : (s : Sheet) (f : Frontend) (c : Call) → answer s f c .refused .number ≡ firstOf (blockFaults s f (length (c .values)) (length (c .out))) .number
-unfolding blockOf accepted
-numbered s f c = go (eqb n 0) refl
-  where
-    n : ℕ
-    n = firstOf (blockFaults s f (length (c .values)) (length (c .out))) .number
-
-    go : (b : Bool) → eqb n 0 ≡ b → answer s f c .refused .number ≡ n
-    go true e = rw e (sym (eqb-true n 0 e))
-    go false e = rw e
 
 -- no refusal, or one of 10 to 12
 abbrev Own : ℕ → Type 0
@@ -72,5 +59,5 @@ states-go-on s ok cs c =
     let g = good (s .params) f (going s (no-faults s none) f _ (ends-inv s ok cs)) in
     let e : stateFaults s f ≡ [] = ap (λ (l : List Refusal). l ++ unless (goodState (s .params) f) (refusal 9 [])) none
     ∙ ap (λ (b : Bool). unless b (refusal 9 [])) g in
-    subst Own (sym (numbered s f c))
+    subst Own (sym (number-first s f (c .values) (c .out)))
     (own (stateFaults s f) e f (length (c .values)) (length (c .out)))

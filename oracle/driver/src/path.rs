@@ -180,7 +180,7 @@ fn block_size(r: &mut Random, pairs: u64, outputs: Outputs) -> u64 {
     }
 }
 
-/// Fails where isdb-rs and the reading differ, and says in which number first.
+/// Fails where the run by isdb-rs and the reading differ, and says in which number first.
 fn same(what: &str, rust: &[i64], reading: &[i64]) -> io::Result<()> {
     if rust == reading {
         return Ok(());
@@ -188,6 +188,6 @@ fn same(what: &str, rust: &[i64], reading: &[i64]) -> io::Result<()> {
     let at = rust.iter().zip(reading).take_while(|(a, b)| a == b).count();
     let (rust, reading) = (rust.get(at), reading.get(at));
     Err(io::Error::other(format!(
-        "isdb-rs and the reading of docs/RULES.md differ in {what}, number {at}: {rust:?} and {reading:?}"
+        "the run by isdb-rs and the reading of docs/RULES.md differ in {what}, number {at}: {rust:?} and {reading:?}"
     )))
 }

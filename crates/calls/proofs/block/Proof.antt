@@ -1,35 +1,44 @@
 -- `calls::block` meets its contract: it refuses in the definition's order, and then has touched nothing. Where nothing is refused, the block's state has
--- places again (Answers, `left`), and its symbols can be counted.
-use Prim.Native.Nat.{ℕ, _^_, _≤_, _<_}
+-- places again (Answers, `left`), and so have its symbols and its pairs, which can be counted.
+use Prim.Native.Nat.{ℕ, _≤_}
 use mathlib.Core.Path.{_≡_, refl, sym, ap, subst, _∙_}
-use mathlib.Core.Bool.{true}
-use mathlib.Core.List.{List}
+use mathlib.Core.Bool.{true, cond}
+use mathlib.Core.List.{List, [], _∷_}
 use native.Mathlib.Omega.{arith}
-use lib.ListN.{length}
-use lib.IntN.{ℤ, pos, negℤ}
+use lib.Dec.{leb}
+use lib.ListN.{length, drop, length-set}
+use lib.Seq.{sets, sets-eq}
+use lib.IntN.{ℤ, pos}
 use mir.Syntax.{w64}
+use mir.Val.{toZ}
 use mir.Facts.{toZ-pos}
 use borrow.Author.Needs.{needs}
-use borrow.Author.Tests.{eq-eqb, ne-eqb}
+use borrow.Author.Tests.{eq-eqb, ne-eqb, le-leb, lt-leb}
 use Rattle.arith.proofs.Bits.{sfit}
 use Rattle.params.specs.declared.Params.{Params}
+use Rattle.params.specs.Refusal.{Refusal}
 use Rattle.params.specs.Judge.{Sheet, sheetOf}
 use Rattle.state.specs.declared.Frontend.{Frontend}
 use Rattle.fixed.specs.Block.{Block, blockOf, processed}
+use Rattle.fixed.proofs.Refused.{number-first}
 use Rattle.places.specs.Sheet.{sheetNumber}
 use Rattle.kinds.specs.Answer.{Answer, firstNumber}
-use Rattle.places.specs.States.{stateFits, stateOf, readState, numbersOf, hasPlaces, stateWritten}
+use Rattle.places.specs.States.{stateFits, stateOf, numbersOf, hasPlaces, stateWritten}
 use Rattle.kinds.proofs.Answered.{first-is, then-is}
 use Rattle.calls.specs.Calls.{sheetAt, stateNumber, BlockAnswer, blockAnswer}
 use Rattle.places.proofs.Readable.{state-long}
 use Rattle.places.proofs.Read.{Unread, Sheeted, sheet-refused, sheet-read}
-use Rattle.calls.proofs.Answers.{none-of, state-fits, state-read, block-number, minus-fits, minus-read, untouched, Left, left}
+use Rattle.calls.proofs.Answers.{first-more, none-of, state-fits, state-read, block-number, untouched, Left, left}
 use Rattle.calls.proofs.block.Statement.{statement}
 use Rattle.calls.proofs.block.Tie as tie
 
 -- ---- the answer, by its number
 
-module _ (l h g k state values out : List ℤ) where
+-- 11 where the answer has no places
+abbrev room : List ℤ → ℕ
+room answer = cond (leb 4 (length answer)) 0 11
+
+module _ (l h g k state values out answer : List ℤ) where
   abbrev sheet : Sheet
   sheet = sheetAt l h g k
 
@@ -37,17 +46,17 @@ module _ (l h g k state values out : List ℤ) where
   block = blockOf sheet (stateOf state) values out
 
   abbrev number : ℕ
-  number = firstNumber (sheetNumber l) (firstNumber (stateNumber sheet state) (block .refused .number))
+  number = firstNumber (sheetNumber l) (firstNumber (stateNumber sheet state) (firstNumber (block .refused .number) (room answer)))
 
-  refuses : {n : ℕ} {z : ℤ} {o : List ℤ} → (n ≡ 0 → ⊥) → n ≡ number → z ≡ negℤ (pos n) → o ≡ out
-      → _≡_ {A = BlockAnswer} (record { result = z; state = state; output = o }) (blockAnswer l h g k state values out)
+  refuses : {n : ℕ} {o : List ℤ} → (n ≡ 0 → ⊥) → n ≡ number → o ≡ out
+      → _≡_ {A = BlockAnswer} (record { number = n; state = state; output = o; answer = answer }) (blockAnswer l h g k state values out answer)
   unfolding blockAnswer
-  refuses h e r o = rw (ne-eqb number 0 (λ z. h (e ∙ z))) (λ i. record { result = (r ∙ ap (λ (n : ℕ). negℤ (pos n)) e) i; state = state; output = o i })
+  refuses h e o = rw (ne-eqb number 0 (λ z. h (e ∙ z))) (λ i. record { number = e i; state = state; output = o i; answer = answer })
 
-  writes : {z : ℤ} {s o : List ℤ} → 0 ≡ number → z ≡ pos (block .count) → s ≡ numbersOf (block .state) → o ≡ block .output
-      → _≡_ {A = BlockAnswer} (record { result = z; state = s; output = o }) (blockAnswer l h g k state values out)
+  writes : {s o w : List ℤ} → 0 ≡ number → s ≡ numbersOf (block .state) → o ≡ block .output → w ≡ pos (block .count) ∷ pos (block .taken) ∷ drop 2 answer
+      → _≡_ {A = BlockAnswer} (record { number = 0; state = s; output = o; answer = w }) (blockAnswer l h g k state values out answer)
   unfolding blockAnswer
-  writes e r s o = rw (eq-eqb number 0 (sym e)) (λ i. record { result = r i; state = s i; output = o i })
+  writes e s o w = rw (eq-eqb number 0 (sym e)) (λ i. record { number = 0; state = s i; output = o i; answer = w i })
 
 -- ---- the sheet
 
@@ -67,39 +76,18 @@ unread c = sheet-refused _ (sym (c .before .before .read-sheet .ensures) ∙ c .
 readable : (c : tie.After-p) → Sheeted (c .before .before .before .args .sheet .now) (c .p .given .0 .0)
 readable c = sheet-read _ (sym (c .before .before .read-sheet .ensures) ∙ c .p .given .1)
 
-cast-result : tie.Need-cast-result
-cast-result c = search needs
-
--- the number, as the machine holds it
-small : (c : tie.After-known-told) → c .before .number .given .0 .0 < 2 ^ 32
-small c = search needs
-
-sub-result : tie.Need-sub-result
-sub-result c = minus-fits _ (small c)
-
-returns-2 : tie.Need-returns-2
-returns-2 c =
-    let u = unread (c .before) in
-    refuses _ _ _ _ _ _ _ (u .some) (first-is _ _ (u .some) (u .is)) (minus-read _ (small c)) refl
+returns-4 : tie.Need-returns-4
+returns-4 c = let u = unread (c .before) in refuses _ _ _ _ _ _ _ _ (u .some) (first-is _ _ (u .some) (u .is)) refl
 
 -- ---- the state
 
 read-state-requires : tie.Need-read-state-requires
 read-state-requires c κs = search needs
 
-process-requires : tie.Need-process-requires
-process-requires c κs = search needs
-
-number-requires : tie.Need-number-requires
-number-requires c κs = search needs
-
--- what the block answers of any places
-module _ (c : tie.After-process) where
-  abbrev given : tie.After-read-state
-  given = c .before .before
-
+-- what a block answers of the state that was read
+module _ (c : tie.After-read-state) where
   abbrev arm : tie.After-p
-  arm = given .before .before .before
+  arm = c .before .before .before
 
   abbrev start : tie.Start
   start = arm .before .before .before
@@ -107,78 +95,96 @@ module _ (c : tie.After-process) where
   abbrev asked : Sheet
   asked = let a = start .args in sheetAt (a .sheet .now) (a .h .now) (a .g .now) (a .k .now)
 
-  abbrev blockFrom : Frontend → Block
-  blockFrom f = let a = start .args in blockOf asked f (a .values .now) (a .out .now)
+  abbrev read-as : Params → Sheet
+  read-as p = let a = start .args in sheetOf p (a .h .now) (a .g .now) (a .k .now)
+
+  abbrev blockFrom : Sheet → Frontend → Block
+  blockFrom s f = let a = start .args in blockOf s f (a .values .now) (a .out .now)
 
   abbrev places : List ℤ
   places = start .args .state .now
 
-  told : processed (c .process .result) (c .process .last .1 .1 .1 .1 .1 .1 .0) ≡ blockFrom (readState places)
-  told =
+  -- under the sheet that was read it is that of the sheet asked for
+  same : blockFrom (read-as (arm .p .given .0 .0)) (c .read-state .result) ≡ blockFrom asked (c .read-state .result)
+  same = ap (λ (p : Params). blockFrom (read-as p) (c .read-state .result)) (readable arm .is)
+
+  -- its number: that of the places, then that of the state that they say
+  first : blockFrom asked (c .read-state .result) .refused .number
+      ≡ firstNumber (stateNumber asked places) (blockFrom asked (stateOf places) .refused .number)
+  first =
       let a = start .args in
-      let of-p : Params → Block = λ p. blockOf (sheetOf p (a .h .now) (a .g .now) (a .k .now)) (given .read-state .result) (a .values .now) (a .out .now) in
-      c .process .ensures ∙ ap of-p (readable arm .is) ∙ ap (λ (f : Frontend). blockFrom f) (given .read-state .ensures)
+      ap (λ (f : Frontend). blockFrom asked f .refused .number) (c .read-state .ensures) ∙ block-number asked places (a .values .now) (a .out .now)
 
--- its number: that of the places, then that of the state that they say
-numbered : (c : tie.After-number2) → let p = c .before .before in
-    c .number2 .result ≡ firstNumber (stateNumber (asked p) (places p)) (blockFrom p (stateOf (places p)) .refused .number)
-numbered c =
-    let p = c .before .before in
-    let a = start p .args in
-    c .number2 .ensures ∙ ap (λ (b : Block). b .refused .number) (told p) ∙ block-number (asked p) (places p) (a .values .now) (a .out .now)
+  -- a number that refuses the block is the call's
+  refusing : {n : ℕ} → (n ≡ 0 → ⊥) → n ≡ blockFrom asked (c .read-state .result) .refused .number
+      → let a = start .args in
+      n ≡ number (a .sheet .now) (a .h .now) (a .g .now) (a .k .now) places (a .values .now) (a .out .now) (a .answer .now)
+  refusing some is =
+      let of-block = blockFrom asked (stateOf places) .refused .number in
+      then-is _ _ (readable arm .none) (first-more (stateNumber asked places) of-block (room (start .args .answer .now)) some (is ∙ first))
 
--- and with it the call's
-called : (c : tie.After-number2)
-    → let a = start (c .before .before) .args in
-    c .number2 .result ≡ number (a .sheet .now) (a .h .now) (a .g .now) (a .k .now) (a .state .now) (a .values .now) (a .out .now)
-called c = then-is _ _ (readable (arm (c .before .before)) .none) (numbered c)
+  -- where it refuses nothing, the answer's places decide
+  none : blockFrom asked (c .read-state .result) .refused .number ≡ 0
+      → (stateNumber asked places ≡ 0) × (blockFrom asked (stateOf places) .refused .number ≡ 0)
+  none z = none-of _ _ (sym first ∙ z)
 
-cast-result-2 : tie.Need-cast-result-2
-cast-result-2 c = search needs
+  deciding : {n : ℕ} → blockFrom asked (c .read-state .result) .refused .number ≡ 0 → n ≡ room (start .args .answer .now)
+      → let a = start .args in
+      n ≡ number (a .sheet .now) (a .h .now) (a .g .now) (a .k .now) places (a .values .now) (a .out .now) (a .answer .now)
+  deciding z is = then-is _ _ (readable arm .none) (then-is _ _ (none z .0) (then-is _ _ (none z .1) is))
 
-sub-result-2 : tie.Need-sub-result-2
-sub-result-2 c = minus-fits (c .before .number2 .result) (c .before .number2 .ok)
+-- ---- no room for the answer
+
+check-block-requires : tie.Need-check-block-requires
+check-block-requires c κs = search needs
+
+number-requires : tie.Need-number-requires
+number-requires c κs = search needs
+
+-- what is looked for is what the block would refuse
+checked : (c : tie.After-number2) → let r = c .before .before .before in
+    c .number2 .result ≡ blockFrom r (asked r) (r .read-state .result) .refused .number
+checked c =
+    let r = c .before .before .before in
+    let a = start r .args in
+    c .number2 .ensures ∙ ap (λ (x : Refusal). x .number) (c .before .check-block .ensures)
+    ∙ sym (number-first (read-as r (arm r .p .given .0 .0)) (r .read-state .result) (a .values .now) (a .out .now))
+    ∙ ap (λ (b : Block). b .refused .number) (same r)
 
 same-length : tie.Need-same-length
 same-length c = search needs
 
+returns : tie.Need-returns
+returns c = refuses _ _ _ _ _ _ _ _ (c .if2 .taken) (refusing (c .before .before .before .before) (c .if2 .taken) (checked (c .before))) refl
+
 same-length-2 : tie.Need-same-length-2
 same-length-2 c = search needs
 
-returns : tie.Need-returns
-returns c =
-    let p = c .before .before .before in
-    let refused = c .before .number2 .ensures ∙ ap (λ (b : Block). b .refused .number) (told p) in
-    refuses _ _ _ _ _ _ _ (c .if1 .taken) (called (c .before)) (minus-read (c .before .number2 .result) (c .before .number2 .ok))
-    (ap (λ (b : Block). b .output) (told p) ∙ untouched _ _ _ _ (λ z. c .if1 .taken (refused ∙ z)))
+returns-2 : tie.Need-returns-2
+returns-2 c =
+    let t = c .before .before .before in
+    let l = start (t .before) .args .answer .now in
+    let short : _≡_ {A = ℕ} 11 (room l) = rw (lt-leb 4 (length l) (t .if1 .taken)) refl in
+    refuses _ _ _ _ _ _ _ _ (λ z. absurd (omega arith)) (deciding (t .before) (sym (checked (c .before)) ∙ c .if2 .left) short) refl
 
--- ---- nothing is refused
+-- ---- the block
 
-module _ (c : tie.Else1) where
-  abbrev ran : tie.After-process
-  ran = c .before .before .before
+process-requires : tie.Need-process-requires
+process-requires c κs = search needs
 
-  none : (stateNumber (asked ran) (places ran) ≡ 0) × (blockFrom ran (stateOf (places ran)) .refused .number ≡ 0)
-  none = none-of _ _ (sym (numbered (c .before)) ∙ c .if1 .left)
+number-requires-2 : tie.Need-number-requires-2
+number-requires-2 c κs = search needs
 
-  fitting : stateFits (places ran) ≡ true
-  fitting = state-fits (asked ran) (places ran) (none .0)
+abbrev given : tie.After-process → tie.After-read-state
+given c = c .before .before .before
 
-  done : processed (ran .process .result) (ran .process .last .1 .1 .1 .1 .1 .1 .0) ≡ blockFrom ran (stateOf (places ran))
-  done = told ran ∙ ap (λ (f : Frontend). blockFrom ran f) (state-read (asked ran) (places ran) fitting)
+told : (c : tie.After-process) → let r = given c in
+    processed (c .process .result) (c .process .last .1 .1 .1 .1 .1 .1 .0) ≡ blockFrom r (asked r) (r .read-state .result)
+told c = c .process .ensures ∙ same (given c)
 
-  leaves : Left (blockFrom ran (stateOf (places ran)))
-  leaves = left _ _ _ _ (none .1)
-
-  -- the count, as a signed number
-  counted : ran .process .result .count ≤ 9223372036854775807
-  counted = subst (λ (n : ℕ). n ≤ 9223372036854775807) (ap (λ (b : Block). b .count) (sym done)) (leaves .counted)
-
-write-state-requires : tie.Need-write-state-requires
-write-state-requires c κs = search needs
-
-cast-result-3 : tie.Need-cast-result-3
-cast-result-3 c = sfit (omega (arith, counted (c .before .before .before .before .before)))
+numbered : (c : tie.After-number3) → let r = given (c .before .before) in
+    c .number3 .result ≡ blockFrom r (asked r) (r .read-state .result) .refused .number
+numbered c = c .number3 .ensures ∙ ap (λ (b : Block). b .refused .number) (told (c .before .before))
 
 same-length-3 : tie.Need-same-length-3
 same-length-3 c = search needs
@@ -186,22 +192,99 @@ same-length-3 c = search needs
 same-length-4 : tie.Need-same-length-4
 same-length-4 c = search needs
 
+returns-3 : tie.Need-returns-3
+returns-3 c =
+    let p = c .before .before .before in
+    refuses _ _ _ _ _ _ _ _ (c .if3 .taken) (refusing (given p) (c .if3 .taken) (numbered (c .before)))
+    (ap (λ (b : Block). b .output) (told p) ∙ untouched _ _ _ _ (λ z. c .if3 .taken (numbered (c .before) ∙ z)))
+
+-- ---- nothing is refused
+
+module _ (c : tie.Else3) where
+  abbrev running : tie.After-process
+  running = c .before .before .before
+
+  abbrev from : tie.After-read-state
+  from = given running
+
+  accepts : blockFrom from (asked from) (from .read-state .result) .refused .number ≡ 0
+  accepts = sym (numbered (c .before)) ∙ c .if3 .left
+
+  fitting : stateFits (places from) ≡ true
+  fitting = state-fits (asked from) (places from) (none from accepts .0)
+
+  done : processed (running .process .result) (running .process .last .1 .1 .1 .1 .1 .1 .0) ≡ blockFrom from (asked from) (stateOf (places from))
+  done =
+      told running
+      ∙ ap (λ (f : Frontend). blockFrom from (asked from) f) (from .read-state .ensures ∙ state-read (asked from) (places from) fitting)
+
+  leaves : Left (blockFrom from (asked from) (stateOf (places from)))
+  leaves = left _ _ _ _ (none from accepts .1)
+
+  -- both counts, as signed numbers
+  counted : running .process .result .count ≤ 9223372036854775807
+  counted = subst (λ (n : ℕ). n ≤ 9223372036854775807) (ap (λ (b : Block). b .count) (sym done)) (leaves .counted)
+
+  took : running .process .result .taken ≤ 9223372036854775807
+  took = subst (λ (n : ℕ). n ≤ 9223372036854775807) (ap (λ (b : Block). b .taken) (sym done)) (leaves .taken)
+
+write-state-requires : tie.Need-write-state-requires
+write-state-requires c κs = search needs
+
+cast-answer : tie.Need-cast-answer
+cast-answer c = sfit (omega (arith, counted (c .before .before .before .before .before)))
+
+slice-set-from-answer : tie.Need-slice-set-from-answer
+slice-set-from-answer c = search needs
+
+cast-answer-2 : tie.Need-cast-answer-2
+cast-answer-2 c = sfit (omega (arith, took (c .before .before .before .before .before .before)))
+
+abbrev passed : tie.After-struct-known2 → tie.Else3
+passed c = c .before .before .before .before .before .before
+
+-- there are four places
+roomy : (c : tie.Else3) → 4 ≤ length (start (from c) .args .answer .now)
+roomy c = running c .before .before .if1 .left
+
+slice-set-from-answer-2 : tie.Need-slice-set-from-answer-2
+slice-set-from-answer-2 c = simp length-set (omega (arith, roomy (passed c)))
+
+same-length-5 : tie.Need-same-length-5
+same-length-5 c = search needs
+
+same-length-6 : tie.Need-same-length-6
+same-length-6 c = search needs
+
+same-length-7 : tie.Need-same-length-7
+same-length-7 c = search needs
+
 -- a state whose counts have places is written to as many places as a state has
 written : (f : Frontend) (l : List ℤ) → length l ≡ 186 → hasPlaces f ≡ true → stateWritten f l .places ≡ numbersOf f
 unfolding stateWritten
 written f l long placed = rw (eq-eqb (length l) 186 long, placed) refl
 
-returns-3 : tie.Need-returns-3
-returns-3 c =
-    let right = c .before .before .before .before .before in
-    let p = ran right in
-    let l = places p in
-    writes _ _ _ _ _ _ _ (sym (right .if1 .left) ∙ called (right .before))
-    (toZ-pos w64 {n = p .process .result .count} (omega (arith, counted right)) ∙ ap (λ (b : Block). pos (b .count)) (done right))
-    (ap (λ (a : Answer). a .places) (c .before .before .write-state .ensures)
-    ∙ ap (λ (b : Block). stateWritten (b .state) l .places) (done right)
-    ∙ written (blockFrom p (stateOf l) .state) l (state-long l (fitting right)) (leaves right .placed))
-    (ap (λ (b : Block). b .output) (done right))
+-- what two stores leave, once the casts are read back
+stored : (count taken : ℕ) (l : List ℤ) → count ≤ 9223372036854775807 → taken ≤ 9223372036854775807 → 4 ≤ length l
+    → sets l 0 (toZ w64 count ∷ toZ w64 taken ∷ []) ≡ pos count ∷ pos taken ∷ drop 2 l
+stored count taken l c t long =
+    simp (toZ-pos w64 {n = count} (omega arith), toZ-pos w64 {n = taken} (omega arith))
+    (sets-eq (pos count ∷ pos taken ∷ []) l 0 (omega arith))
+
+returns-5 : tie.Need-returns-5
+returns-5 c =
+    let e = passed c in
+    let r = from e in
+    let l = places r in
+    let w = start r .args .answer .now in
+    let b = running e .process .result in
+    let long : _≡_ {A = ℕ} 0 (room w) = rw (le-leb 4 (length w) (roomy e)) refl in
+    writes _ _ _ _ _ _ _ _ (deciding r (accepts e) long)
+    (ap (λ (a : Answer). a .places) (c .before .before .before .write-state .ensures)
+    ∙ ap (λ (x : Block). stateWritten (x .state) l .places) (done e)
+    ∙ written (blockFrom r (asked r) (stateOf l) .state) l (state-long l (fitting e)) (leaves e .placed))
+    (ap (λ (x : Block). x .output) (done e))
+    (stored (b .count) (b .taken) w (counted e) (took e) (roomy e) ∙ ap (λ (x : Block). pos (x .count) ∷ pos (x .taken) ∷ drop 2 w) (done e))
 
 pub block-spec : {M : Type 1} → statement M
 block-spec =
@@ -209,20 +292,26 @@ block-spec =
     (tie.spec
     read-sheet-requires
     enum-known-number
-    cast-result
-    sub-result
     enum-known-p
     read-state-requires
-    process-requires
+    check-block-requires
     number-requires
-    cast-result-2
-    sub-result-2
     same-length
-    same-length-2
     returns
-    write-state-requires
-    cast-result-3
+    same-length-2
     returns-2
+    process-requires
+    number-requires-2
     same-length-3
     same-length-4
-    returns-3)
+    returns-3
+    write-state-requires
+    cast-answer
+    slice-set-from-answer
+    cast-answer-2
+    slice-set-from-answer-2
+    returns-4
+    same-length-5
+    same-length-6
+    same-length-7
+    returns-5)
