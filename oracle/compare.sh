@@ -93,13 +93,14 @@ done
 # Offsets alone: accepted sheets, each asked for ties and their neighbours, its ends, and rests next to a half.
 replayed "offsets, ties and ends among them" replay_calls $checked offsets 1 $((4000 * SCALE))
 
-# The path: runs from a fresh start in blocks of all sizes, 1.3 million symbols in all. The driver also holds each answer of isdb-rs against its own reading.
+# The path: runs from a fresh start in blocks of all sizes, many of them with outputs for some of their pairs only and the rest offered again, 1.3 million
+# symbols in all. The driver also holds each answer of isdb-rs against its own reading.
 for kind in designed extreme mixed; do
     replayed "starting, blocks and readings, $kind sheets" replay_calls $checked path $kind 1 $((700 * SCALE))
 done
 
-# The same at every delay from 1 to 24, by isdb-rs with that number for its constant, and each time held against the reading too. Of 1,440 sheets 1,297 are
-# accepted and run, at least 51 at each delay; the others are refused.
+# The same at every delay from 1 to 24, by isdb-rs with that number for its constant, and each time held against the reading too. Of 1,440 sheets 1,299 are
+# accepted and run, at least 50 at each delay; the others are refused.
 for kind in designed extreme mixed; do
     replayed "starting, blocks and readings at each delay, $kind sheets" replay_calls runs_at_each_delay $kind $((20 * SCALE))
 done
@@ -107,7 +108,8 @@ done
 # Every number that the delay's field can hold, accepted or refused, by itself and behind a refusal that comes before it.
 replayed "calls under every number for a delay" replay_calls $checked delays 1
 
-# States that no run reaches, of any delay, good ones and broken ones, 100,000 in all, with a short block or two and a reading for each.
+# States that no run reaches, of any delay, good ones and broken ones, many next to the last sample that can be counted, 100,000 in all, with a short block or
+# two and a reading for each.
 for kind in extreme mixed; do
     replayed "blocks and readings of any state, $kind sheets" replay_calls $checked states $kind 1 $((50000 * SCALE))
 done
@@ -126,7 +128,8 @@ replayed "sheets of designs, judged, few taps" replay_floats $checked floats sma
 rm -f "$work/differs"
 told "the symbol program" $checked against target/bin/symbols 1 $((5000 * SCALE)) "$work/differs"
 
-# The archive, linked beside isdb-rs: runs in blocks of all sizes, states that are changed after them, and calls between them in which something is wrong.
+# The archive, linked beside isdb-rs: runs in blocks of all sizes and with outputs that are too short for them, states that are changed after them, and calls
+# between them in which something is wrong.
 told "calls through the archive" oracle/archive/target/release/compare 1 $((20000000 * SCALE))
 
 # The Rust's two builds against each other: where they differ an overflow wrapped, and its answers are no measure.

@@ -49,6 +49,14 @@ pairs-cut (i ∷ q ∷ values) (suc n) =
     let a : 2 * suc n ≡ suc (suc (2 * n)) = omega arith in
     rw a (ap (λ (l : List Pair). record { i = i; q = q } ∷ l) (pairs-cut values n))
 
+-- and those behind them are those of the values behind
+pub pairs-rest : (values : List ℤ) (n : ℕ) → pairsOf (drop (2 * n) values) ≡ drop n (pairsOf values)
+unfolding pairsOf
+pairs-rest values zero = refl
+pairs-rest [] (suc n) = let a : 2 * suc n ≡ suc (suc (2 * n)) = omega arith in rw a refl
+pairs-rest (i ∷ []) (suc n) = let a : 2 * suc n ≡ suc (suc (2 * n)) = omega arith in rw a refl
+pairs-rest (i ∷ q ∷ values) (suc n) = let a : 2 * suc n ≡ suc (suc (2 * n)) = omega arith in rw a (pairs-rest values n)
+
 -- ---- a turn's output
 
 -- The output begins with the places of these symbols, and is otherwise as it was.

@@ -83,7 +83,8 @@ fn is_block(row: &[i64], block: Processed, out: &[i64]) -> bool {
     let refusal = answer::of_frontend(verdict);
     rows::at(row, 1) == rows::i64_of(out.len() as u64)
         && rows::at(row, 2) == rows::i64_of(block.count as u64)
-        && refusal.is(rows::rest(row, 3))
+        && rows::at(row, 3) == rows::i64_of(block.taken as u64)
+        && refusal.is(rows::rest(row, 4))
         && (refusal.number == 0 || block.count == 0)
         && is_kept_behind(out, block.count)
 }

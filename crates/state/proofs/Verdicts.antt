@@ -1,6 +1,6 @@
 -- What a call on a state answers, and what its answer tells of the faults. The faults of a sheet, of a state and of a block's sizes are looked for in this
 -- order, each has a number other than 0, and so an answer of "accepted" says that there is none.
-use Prim.Native.Nat.{ℕ, _+_, _/_, _≤_, _<_, min}
+use Prim.Native.Nat.{ℕ, _+_, _%_, _≤_, _<_}
 use mathlib.Core.Path.{_≡_, refl, sym, ap, _∙_, subst}
 use mathlib.Core.Logic.{_⊎_, inl, inr}
 use mathlib.Core.Bool.{Bool, true, false, _||_}
@@ -9,7 +9,7 @@ use native.Mathlib.Omega.{arith}
 use lib.Dec.{eqb, leb, lit<}
 use types.Run.{OneOf}
 use denote.Enum.Declared.{tagOf}
-use borrow.Author.Tests.{eqb-true, leb-true, ne-eqb}
+use borrow.Author.Tests.{eq-eqb, eqb-true, le-leb, leb-true, ne-eqb}
 use Rattle.params.specs.declared.Params.{Params as Fields}
 use Rattle.params.specs.declared.ParamError.{ParamError}
 use Rattle.params.specs.declared.Verdict.{Verdict}
@@ -118,6 +118,15 @@ sizes-answer s f values places none e = e ∙ sym (first-rest (stateFaults s f) 
 pub state-good : (s : Sheet) (f : Frontend) → stateFaults s f ≡ [] → goodState (s .params) f ≡ true
 state-good s f e = kept (goodState (s .params) f) (refusal 9 []) (none-right (faults s) _ e)
 
+-- no values, or 20 places
+pub enough : (values places : ℕ) → (values ≡ 0) ⊎ (20 ≤ places) → (eqb values 0 || leb 20 places) ≡ true
+enough values places (inl z) = rw (eq-eqb values 0 z) refl
+enough values places (inr l) = go (eqb values 0) refl
+  where
+    go : (b : Bool) → eqb values 0 ≡ b → (eqb values 0 || leb 20 places) ≡ true
+    go true e = rw e refl
+    go false e = rw e (le-leb 20 places l)
+
 -- what is said of a block's sizes: room for a symbol where there are values, and samples that can still be counted
 pub record Sized (f : Frontend) (values places : ℕ) : Type 0 where
   pub room : (values ≡ 0) ⊎ (20 ≤ places)
@@ -134,12 +143,18 @@ sized f values places e = record {
     go true z h = inl (eqb-true values 0 z)
     go false z h = inr (leb-true 20 places (rw z at h))
 
+-- and back, of whole pairs
+pub no-sizes : (f : Frontend) (values places : ℕ) → values % 2 ≡ 0 → Sized f values places → sizeFaults f values places ≡ []
+unfolding sizeFaults flatten
+no-sizes f values places whole s =
+    rw (eq-eqb (values % 2) 0 whole, enough values places (s .room), le-leb (f .samples + pairsTaken values places) 9223372036854775807 (s .few)) refl
+
 -- so a block that has pairs takes one
 pub takes-some : (f : Frontend) {values places : ℕ} → Sized f values places → 2 ≤ values → 1 ≤ pairsTaken values places
 unfolding pairsTaken
 takes-some f {values} {places} s h = go (s .room)
   where
-    go : (values ≡ 0) ⊎ (20 ≤ places) → 1 ≤ min (values / 2) (places / 20)
+    go : (values ≡ 0) ⊎ (20 ≤ places) → 1 ≤ pairsTaken values places
     go (inl z) = absurd (omega arith)
     go (inr l) = omega arith
 

@@ -1,6 +1,6 @@
 -- What a call refuses of a state and of a block's sizes, after what judging refuses of the sheet.
 -- (RULES 4. A number before a definition is that of the refusal it decides.)
-use Prim.Native.Nat.{ℕ, _+_, _*_, _/_, _%_, min}
+use Prim.Native.Nat.{ℕ, _+_, _/_, _%_, min}
 use mathlib.Core.Bool.{Bool, _&&_, _||_}
 use mathlib.Core.List.{List, [], _∷_, _++_, flatten}
 use lib.Dec.{eqb, leb, ltb}

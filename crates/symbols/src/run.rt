@@ -62,7 +62,7 @@ impl Progress {
         stop.is_no()
     }
 
-    fn stopped(self, stop: Stop) -> Progress {
+    fn with_stop(self, stop: Stop) -> Progress {
         let state = self.state;
         let rest = self.rest;
         let output = self.output;
@@ -77,21 +77,17 @@ impl Progress {
 
     // With what a call made of the pairs that it took: its symbols are printed.
     fn with_call(self, done: Processed, places: &[i64], out: &mut [u8]) -> Progress {
+        let state = done.state;
         let before = self.output;
         let output = before.with_symbols(places, done.count, out);
-        let mut stop = self.stop;
+        let mut next = self;
+        next.state = state;
+        next.line = std::num::wrapping_add_u64(self.line, done.taken as u64);
+        next.output = output;
         if !output.is_good() {
-            stop = Stop::Failed;
+            return next.with_stop(Stop::Failed);
         }
-        let state = done.state;
-        let rest = self.rest;
-        Progress {
-            state,
-            rest,
-            line: std::num::wrapping_add_u64(self.line, done.taken as u64),
-            output,
-            stop,
-        }
+        next
     }
 
     // With these pairs. A call takes as many as it has places for, so each goes on from what those before it took.
@@ -113,7 +109,7 @@ impl Progress {
             let verdict = done.verdict;
             let number = verdict.number();
             if 0 < number {
-                return next.stopped(Stop::Refused { number, line: 0 });
+                return next.with_stop(Stop::Refused { number, line: 0 });
             }
             next = next.with_call(done, places, out);
             from += 2 * done.taken;
@@ -135,21 +131,13 @@ impl Progress {
     ) -> Progress {
         let block = block_of(self.rest, self.line, values, bytes);
         let used = arith::least(block.used, values.len());
-        let next = self.with_pairs(params, h, g, k, &values[0..used], places, out);
-        let state = next.state;
+        let mut next = self.with_pairs(params, h, g, k, &values[0..used], places, out);
         let rest = block.rest;
-        let output = next.output;
-        let mut stop = next.stop;
-        if stop.is_no() {
-            stop = block.stop;
+        next.rest = rest;
+        if next.goes_on() {
+            return next.with_stop(block.stop);
         }
-        Progress {
-            state,
-            rest,
-            line: next.line,
-            output,
-            stop,
-        }
+        next
     }
 
     // With the last line.

@@ -1,4 +1,4 @@
--- What a call says that it took. Both counts of which it is the lesser are of whole pairs, so it is never more than there are pairs; and a call with a pair that
+-- What a call says that it took is the lesser of two counts, of which one is that of its pairs: so it is never more than these. A call that has a pair and
 -- refuses nothing has 20 places, so neither count is 0.
 use Prim.Native.Nat.{_≤_, _<_}
 use mathlib.Core.Path.{_≡_, refl}

@@ -8,7 +8,7 @@ use mathlib.Core.List.{List, [], _++_, flatten}
 use native.Mathlib.Omega.{arith}
 use lib.Dec.{eqb, leb}
 use lib.ListN.{length}
-use Rattle.params.specs.Refusal.{Refusal, refusal, unless, firstOf}
+use Rattle.params.specs.Refusal.{Refusal, refusal, nothing, unless, firstOf}
 use Rattle.params.specs.Judge.{Sheet, faults}
 use Rattle.params.proofs.Accepted.{Accepted, judged-none, no-faults}
 use Rattle.state.specs.declared.Frontend.{Frontend}
@@ -51,13 +51,20 @@ own l e f values places =
     by true true false = inr (omega arith, omega arith)
     by true true true = inl refl
 
+-- a sheet and a state without a fault
+pub no-state-faults : (s : Sheet) (f : Frontend) → faults s ≡ [] → goodState (s .params) f ≡ true → stateFaults s f ≡ []
+no-state-faults s f none g =
+    ap (λ (l : List Refusal). l ++ unless (goodState (s .params) f) (refusal 9 [])) none ∙ ap (λ (b : Bool). unless b (refusal 9 [])) g
+
+-- the state that a list hands back
+pub ends-going : (s : Sheet) → startOf s .refused ≡ nothing → (cs : List Call) → Going (s .params) (endState s cs)
+unfolding startOf
+ends-going s ok cs = going s (no-faults s (judged-none s ok)) (endState s cs) _ (ends-inv s ok cs)
+
 pub states-go-on : StatesGoOn
 unfolding startOf blockFaults
 states-go-on s ok cs c =
-    let none : faults s ≡ [] = judged-none s ok in
     let f : Frontend = endState s cs in
-    let g = good (s .params) f (going s (no-faults s none) f _ (ends-inv s ok cs)) in
-    let e : stateFaults s f ≡ [] = ap (λ (l : List Refusal). l ++ unless (goodState (s .params) f) (refusal 9 [])) none
-    ∙ ap (λ (b : Bool). unless b (refusal 9 [])) g in
+    let e : stateFaults s f ≡ [] = no-state-faults s f (judged-none s ok) (good (s .params) f (ends-going s ok cs)) in
     subst Own (sym (number-first s f (c .values) (c .out)))
     (own (stateFaults s f) e f (length (c .values)) (length (c .out)))

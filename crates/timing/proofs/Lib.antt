@@ -5,3 +5,4 @@ pub mod Invariant
 pub mod Timing
 pub mod GoOn
 pub mod Advance
+pub mod Offers

@@ -2,7 +2,7 @@
 -- (RULES 5.1)
 use Prim.Native.Nat.{ℕ, _+_, _*_}
 use mathlib.Core.List.{List, [], _∷_, _++_}
-use lib.ListN.{take}
+use lib.ListN.{take, drop}
 use lib.IntN.{ℤ}
 use Rattle.params.specs.Judge.{Sheet}
 use Rattle.state.specs.declared.Pair.{Pair}
@@ -41,6 +41,13 @@ written s f (c ∷ cs) = take (20 * answer s f c .count) (answer s f c .output) 
 unfoldable pub counted : Sheet → Frontend → List Call → ℕ
 counted s f [] = 0
 counted s f (c ∷ cs) = answer s f c .count + counted s (answer s f c .state) cs
+
+-- A caller that offers what is left: it makes a call with each of its outputs, on the values behind those that the calls before took.
+unfoldable pub offers : Sheet → Frontend → List ℤ → List (List ℤ) → List Call
+offers s f values [] = []
+offers s f values (out ∷ outs) =
+    let c : Call = record { values = values; out = out } in
+    c ∷ offers s (answer s f c .state) (drop (2 * answer s f c .taken) values) outs
 
 -- ---- of a list that begins with the state that starting gave
 

@@ -1,10 +1,10 @@
 -- What holds of every list of block calls from a fresh start, refused calls among them, and of every two such lists under one sheet.
 -- The claims are about the places that the calls wrote and the states that they handed back, and nothing in them is left abstract.
 -- (RULES 5.2, 5.3)
-use Prim.Native.Nat.{ℕ, _+_, _*_, _≤_, _<_}
+use Prim.Native.Nat.{ℕ, _+_, _*_, _/_, _%_, _≤_, _<_}
 use mathlib.Core.Path.{_≡_}
 use mathlib.Core.Logic.{_⊎_}
-use mathlib.Core.List.{List}
+use mathlib.Core.List.{List, []}
 use lib.ListN.{length, getD}
 use lib.IntN.{ℤ, pos, _+ℤ_, _*ℤ_}
 use lib.Signed.{shrZ, _≤ℤ_}
@@ -15,7 +15,7 @@ use Rattle.state.specs.Start.{noPair, startOf}
 use Rattle.state.specs.declared.Frontend.{Frontend}
 use Rattle.fixed.specs.Filter.{sumTo}
 use Rattle.fixed.specs.Block.{pairsOf}
-use Rattle.timing.specs.Lists.{Call, answer, endState, samplesOf, placesWritten, symbolCount}
+use Rattle.timing.specs.Lists.{Call, answer, taken, offers, endState, samplesOf, placesWritten, symbolCount}
 
 -- ---- of the places that were written
 
@@ -115,11 +115,22 @@ StatesGoOn =
     (s : Sheet) → startOf s .refused ≡ nothing → (cs : List Call) (c : Call)
     → let n : ℕ = answer s (endState s cs) c .refused .number in (n ≡ 0) ⊎ ((10 ≤ n) × (n ≤ 12))
 
--- And beyond that: a call takes no more pairs than it is given, and if it is given one and refuses nothing, it takes one at least, whatever the sheet and the
--- state. So a caller that offers again and again what is left comes to an end.
+-- ---- what a caller can count on that is given a short output
+
+-- A call takes no more pairs than it is given, and if it is given one and refuses nothing, it takes one at least, whatever the sheet and the state.
+-- (RULES 5.4)
 pub record Advances (s : Sheet) (f : Frontend) (c : Call) : Type 0 where
   pub given : answer s f c .taken ≤ length (pairsOf (c .values))
   pub some : answer s f c .refused .number ≡ 0 → 0 < length (pairsOf (c .values)) → 0 < answer s f c .taken
 
 abbrev pub CallsAdvance : Type 0
 CallsAdvance = (s : Sheet) (f : Frontend) (c : Call) → Advances s f c
+
+-- So a caller that offers what is left, behind any list, comes to an end: with whole pairs that can be counted, 20 places or more each time and as many calls as
+-- pairs, all of them are taken, each once and in their order.
+abbrev pub OffersEnd : Type 0
+OffersEnd =
+    (s : Sheet) → startOf s .refused ≡ nothing → (cs : List Call) (values : List ℤ) (outs : List (List ℤ))
+    → length values % 2 ≡ 0 → endState s cs .samples + length values / 2 ≤ 9223372036854775807
+    → ((n : ℕ) → n < length outs → 20 ≤ length (getD outs n [])) → length values / 2 ≤ length outs
+    → taken s (endState s cs) (offers s (endState s cs) values outs) ≡ pairsOf values

@@ -4,19 +4,19 @@
 use crate::random::Random;
 use crate::reading::SYMBOL;
 
-/// The most places of a tiny output, which are two symbols' and a few more.
+/// The most places of a tiny output: those of two symbols and a few more.
 const TINY: u64 = 45;
-/// There are fewer places than this in an output that is short.
+/// A short output has fewer places than this, however many pairs are offered.
 const SHORT: usize = 3000;
 
 /// What the outputs of a block, and of the calls that its rest needs, are like.
 #[derive(Clone, Copy, PartialEq)]
 pub enum Outputs {
-    /// Enough places for all pairs, or some more.
+    /// Enough places for all pairs, or some more; now and then at least 2,000.
     Enough,
     /// 0 to 45 places: for no pair, for one or for two.
     Tiny,
-    /// Up to a few thousand, and not many more than are enough.
+    /// Any number up to a few thousand, or up to a few more than are enough where that is less.
     Short,
     /// One of these at each call.
     Any,
@@ -36,7 +36,10 @@ impl Outputs {
     pub fn places(self, r: &mut Random, pairs: usize) -> usize {
         let enough = SYMBOL * pairs;
         match self {
-            Self::Enough => enough + r.pick(&[0, 0, 1, 19, 45]),
+            Self::Enough => {
+                let places = enough + r.pick(&[0, 0, 1, 19, 45]);
+                places.max(r.pick(&[0, 0, 0, 2000]))
+            }
             Self::Tiny => r.below(TINY + 1) as usize,
             Self::Short => r.below(SHORT.min(enough + 3 * SYMBOL) as u64) as usize,
             Self::Any => r

@@ -81,8 +81,8 @@ impl<'a, 'b, W: Write> Run<'a, 'b, W> {
         self.end(&all)
     }
 
-    /// Offers values, and again what is left of them, until all are taken, with refused calls before some blocks. Under a sheet
-    /// that is refused no value ever is.
+    /// Offers values, and again what is left of them, until all are taken, with an odd block before some calls. Under a sheet that
+    /// is refused nothing ever is taken.
     fn offer(&mut self, values: &[i16], outputs: Outputs, r: &mut Random) -> io::Result<()> {
         let mut rest = values;
         loop {
@@ -101,8 +101,8 @@ impl<'a, 'b, W: Write> Run<'a, 'b, W> {
         }
     }
 
-    /// Some of the values or all, but for one, so that the last has no partner: refused whole, though the output may well be for
-    /// the pairs before it.
+    /// Some of the values or all, without the last, so that one has no partner. The block is refused whole, though its output
+    /// may be for some of the pairs before that one.
     fn odd_block(&mut self, values: &[i16], r: &mut Random) -> io::Result<()> {
         let some = values.len().min(2 * r.below(8) as usize);
         let mut odd = values[..r.pick(&[some, values.len()])].to_vec();
@@ -122,14 +122,13 @@ impl<'a, 'b, W: Write> Run<'a, 'b, W> {
     fn block(&mut self, values: &[i16], places: usize) -> io::Result<usize> {
         let block = self.reading.block(&self.state, values, places);
         if let Some(front) = &mut self.front {
-            let taken = outputs::taken(values.len(), places);
-            let (pairs, refusal) = match taken {
+            let (taken, refusal) = match outputs::taken(values.len(), places) {
                 Ok(taken) => (taken, Vec::new()),
                 Err(number) => (0, vec![number.into()]),
             };
             same("what refuses a block", &refusal, &block.refusal)?;
-            same("the pairs taken", &[pairs as i64], &[block.taken as i64])?;
-            let symbols = front.process(&values.as_chunks().0[..pairs]);
+            same("the pairs taken", &[taken as i64], &[block.taken as i64])?;
+            let symbols = front.process(&values.as_chunks().0[..taken]);
             same("symbols", &symbols, &block.output)?;
         }
         self.rows.block(places, &block)?;

@@ -1,9 +1,9 @@
 -- `state::Frontend::check_sizes` meets its contract: it makes the definition's three tests in the same order.
 -- Samples counted by what is left of them say the same as the definition's sum.
 use Prim.Native.Nat.{ℕ, _+_, _/_, _%_, _≤_, _<_}
-use mathlib.Core.Path.{_≡_, refl}
+use mathlib.Core.Path.{_≡_}
 use mathlib.Core.Logic.{_⊎_, inl, inr, ⊎-elim}
-use mathlib.Core.Bool.{Bool, true, false, _||_}
+use mathlib.Core.Bool.{false, _||_}
 use mathlib.Core.List.{List, [], _∷_}
 use native.Mathlib.Omega.{arith}
 use lib.Dec.{eqb, leb, lit<}
@@ -13,6 +13,7 @@ use Rattle.params.specs.Refusal.{Refusal, refusal, unless, firstOf}
 use Rattle.params.proofs.Faults.{First, none, keeps, breaks}
 use Rattle.state.specs.declared.Frontend.{Frontend}
 use Rattle.state.specs.Check.{pairsTaken, sizeFaults}
+use Rattle.state.proofs.Verdicts.{enough}
 use Rattle.state.proofs.Frontend.check_sizes.Statement.{statement}
 use Rattle.state.proofs.Frontend.check_sizes.Tie as tie
 
@@ -33,15 +34,6 @@ returns c = let a = c .before .args in answer (a .self) (a .values) (a .places) 
 -- 11: values for which there are no 20 places
 short : (values places : ℕ) → (values ≡ 0 → ⊥) → places < 20 → (eqb values 0 || leb 20 places) ≡ false
 short values places h l = rw (ne-eqb values 0 h) (lt-leb 20 places l)
-
--- no values, or 20 places
-enough : (values places : ℕ) → (values ≡ 0) ⊎ (20 ≤ places) → (eqb values 0 || leb 20 places) ≡ true
-enough values places (inl z) = rw (eq-eqb values 0 z) refl
-enough values places (inr l) = go (eqb values 0) refl
-  where
-    go : (b : Bool) → eqb values 0 ≡ b → (eqb values 0 || leb 20 places) ≡ true
-    go true e = rw e refl
-    go false e = rw e (le-leb 20 places l)
 
 returns-2 : tie.Need-returns-2
 returns-2 c =
