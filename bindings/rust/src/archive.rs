@@ -2,7 +2,7 @@
 //! [`Frontend`](crate::Frontend) stand above them and are what a program needs; the calls are for those who keep sheets and states as places, or who test
 //! the archive. A call answers 0 or the number of a refusal; where it refuses, no place that it was lent is changed.
 //!
-//! [`block`] may take fewer pairs than it is offered, where it is lent few places for symbols. Who calls it goes on from how many it took: see there.
+//! [`Sheet::block`] may take fewer pairs than it is offered, where it is lent few places for symbols. Who calls it goes on from how many it took: see there.
 //!
 //! All `unsafe` of the crate is here. Each call asks two things of its caller: a pointer is good for its length, and what is lent for writing overlaps
 //! nothing else that is lent. A slice gives the first, and Rust's borrows the second: a `&mut` beside other references. Nothing else can be wrong, since
@@ -171,7 +171,30 @@ impl Sheet<'_> {
         }
     }
 
-    /// [`block`] under this sheet.
+    /// Takes as many pairs of `values`, I before Q, as `out` has room for a symbol each; takes the state on, and writes the symbols to `out`. The first two of
+    /// the four or more places of `answer` become how many symbols were written and how many pairs were taken ([`BLOCK_COUNT`], [`BLOCK_TAKEN`]); the others
+    /// stay as they were.
+    ///
+    /// The pairs behind those that were taken were not looked at. A caller that does not offer them again loses them, and no refusal says so. Where the call is
+    /// not refused and was offered a pair, it takes at least one, so this comes to its end:
+    ///
+    /// ```
+    /// use huntelm::archive::{BLOCK, BLOCK_COUNT, BLOCK_TAKEN, SYMBOL, Sheet};
+    ///
+    /// fn all(sheet: Sheet, state: &mut [i64], mut values: &[i16], symbols: &mut Vec<i64>) -> u32 {
+    ///     let mut out = [0; 2 * SYMBOL];
+    ///     let mut answer = [0; BLOCK];
+    ///     while !values.is_empty() {
+    ///         let refused = sheet.block(state, values, &mut out, &mut answer);
+    ///         if refused != 0 {
+    ///             return refused;
+    ///         }
+    ///         symbols.extend(&out[..SYMBOL * answer[BLOCK_COUNT] as usize]);
+    ///         values = &values[2 * answer[BLOCK_TAKEN] as usize..];
+    ///     }
+    ///     0
+    /// }
+    /// ```
     pub fn block(
         self,
         state: &mut [i64],
@@ -179,16 +202,27 @@ impl Sheet<'_> {
         out: &mut [i64],
         answer: &mut [i64],
     ) -> u32 {
-        block(
-            self.places,
-            self.h,
-            self.g,
-            self.k,
-            state,
-            values,
-            out,
-            answer,
-        )
+        // SAFETY: slices; the three for writing are `&mut`.
+        unsafe {
+            huntelm_block(
+                self.places.as_ptr(),
+                self.places.len(),
+                self.h.as_ptr(),
+                self.h.len(),
+                self.g.as_ptr(),
+                self.g.len(),
+                self.k.as_ptr(),
+                self.k.len(),
+                state.as_mut_ptr(),
+                state.len(),
+                values.as_ptr(),
+                values.len(),
+                out.as_mut_ptr(),
+                out.len(),
+                answer.as_mut_ptr(),
+                answer.len(),
+            )
+        }
     }
 
     /// Writes a state's period, its gain and its number of symbols.
@@ -230,67 +264,6 @@ impl Sheet<'_> {
                 answer.len(),
             )
         }
-    }
-}
-
-/// Takes as many pairs of `values`, I before Q, as `out` has room for a symbol each; takes the state on, and writes the symbols to `out`. The first two of
-/// the four or more places of `answer` become how many symbols were written and how many pairs were taken ([`BLOCK_COUNT`], [`BLOCK_TAKEN`]); the others
-/// stay as they were.
-///
-/// The pairs behind those that were taken were not looked at. A caller that does not offer them again loses them, and no refusal says so. Where the call is
-/// not refused and was offered a pair, it takes at least one, so this comes to its end:
-///
-/// ```
-/// use huntelm::archive::{BLOCK, BLOCK_COUNT, BLOCK_TAKEN, SYMBOL, Sheet};
-///
-/// fn all(sheet: Sheet, state: &mut [i64], mut values: &[i16], symbols: &mut Vec<i64>) -> u32 {
-///     let mut out = [0; 2 * SYMBOL];
-///     let mut answer = [0; BLOCK];
-///     while !values.is_empty() {
-///         let refused = sheet.block(state, values, &mut out, &mut answer);
-///         if refused != 0 {
-///             return refused;
-///         }
-///         symbols.extend(&out[..SYMBOL * answer[BLOCK_COUNT] as usize]);
-///         values = &values[2 * answer[BLOCK_TAKEN] as usize..];
-///     }
-///     0
-/// }
-/// ```
-#[expect(
-    clippy::too_many_arguments,
-    reason = "they are those of include/huntelm.h; `Sheet::block` has four of them as one"
-)]
-pub fn block(
-    sheet: &[i64],
-    h: &[i32],
-    g: &[i32],
-    k: &[i32],
-    state: &mut [i64],
-    values: &[i16],
-    out: &mut [i64],
-    answer: &mut [i64],
-) -> u32 {
-    // SAFETY: slices; the three for writing are `&mut`.
-    unsafe {
-        huntelm_block(
-            sheet.as_ptr(),
-            sheet.len(),
-            h.as_ptr(),
-            h.len(),
-            g.as_ptr(),
-            g.len(),
-            k.as_ptr(),
-            k.len(),
-            state.as_mut_ptr(),
-            state.len(),
-            values.as_ptr(),
-            values.len(),
-            out.as_mut_ptr(),
-            out.len(),
-            answer.as_mut_ptr(),
-            answer.len(),
-        )
     }
 }
 

@@ -1,9 +1,9 @@
-//! How many pairs a block takes, and what becomes of those that it does not take: `archive::block` with places for fewer symbols than there are pairs.
+//! How many pairs a block takes, and what becomes of those that it does not take: `Sheet::block` with places for fewer symbols than there are pairs.
 
 mod common;
 
 use common::{RECORDING, recording};
-use huntelm::archive::{self, BLOCK, BLOCK_COUNT, BLOCK_TAKEN, STATE, SYMBOL};
+use huntelm::archive::{BLOCK, BLOCK_COUNT, BLOCK_TAKEN, STATE, SYMBOL, Sheet};
 use huntelm::{Params, Refusal};
 
 /// The place of a state that has the samples so far.
@@ -46,19 +46,20 @@ impl After {
     }
 }
 
+fn lent<'a>(p: &'a Params, places: &'a [i64]) -> Sheet<'a> {
+    Sheet {
+        places,
+        h: &p.h,
+        g: &p.g,
+        k: &p.k,
+    }
+}
+
 /// A block on this state, with so many places for symbols and so many for the answer.
 fn block(p: &Params, state: &[i64; STATE], values: &[i16], places: usize, room: usize) -> After {
     let mut after = After::refused(NONE, state, places, room);
-    after.number = archive::block(
-        &p.places(),
-        &p.h,
-        &p.g,
-        &p.k,
-        &mut after.state,
-        values,
-        &mut after.out,
-        &mut after.answer,
-    );
+    after.number =
+        lent(p, &p.places()).block(&mut after.state, values, &mut after.out, &mut after.answer);
     after
 }
 
@@ -78,13 +79,7 @@ fn run(p: &Params, values: &[i16], places: usize) -> (Vec<i64>, [i64; STATE]) {
 
 fn fresh(p: &Params) -> [i64; STATE] {
     let mut state = [0; STATE];
-    let sheet = archive::Sheet {
-        places: &p.places(),
-        h: &p.h,
-        g: &p.g,
-        k: &p.k,
-    };
-    assert_eq!(sheet.start(&mut state), NONE);
+    assert_eq!(lent(p, &p.places()).start(&mut state), NONE);
     state
 }
 
