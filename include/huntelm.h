@@ -214,7 +214,8 @@ uint32_t huntelm_start(const int64_t *sheet, size_t sheet_len, const int32_t *h,
 
 /*
  * Takes pairs of values, I before Q, from the first on, and says how many it took: all of them, or as many as out has room for a symbol each. The pairs behind
- * them were not looked at, and who does not offer them again loses them: no refusal says so. So go on from there. This is right for every out_len from 20 on:
+ * them were not looked at, and whoever does not offer them again loses them: no refusal says so. So go on from there. For every out_len from 20 on this is
+ * right:
  *
  *     int64_t answer[HUNTELM_BLOCK_PLACES];
  *     while (values_len > 0) {
@@ -229,11 +230,11 @@ uint32_t huntelm_start(const int64_t *sheet, size_t sheet_len, const int32_t *h,
  * A call that is offered a pair and is not refused takes at least one, so the loop comes to its end. That is proved.
  *
  * The call takes values_len / 2 or out_len / 20 pairs, whichever is less, both rounded down. It takes the state further, writes 20 places for each symbol to
- * out, one symbol after the other, and leaves the places behind them as they were. To answer, which has at least 4 places, it writes how many symbols these
+ * out, one symbol after the other, and leaves the places behind them as they were. Into answer, of at least 4 places, it writes how many symbols these
  * are, which may be 0, and how many pairs it took; the other places stay as they were (enum huntelm_block_place). Answers 0.
  *
- * With 20 places for each pair it takes all. With fewer everything is as if it had been lent only the pairs that it takes. A pair gives one symbol at most and
- * often none, so places may be left; it does not go on until out is full.
+ * With 20 places for each pair it takes all. With fewer, where nothing is refused, all is as if it had been lent only the pairs that it takes. A pair gives
+ * one symbol at most and often none, so places may be left; it does not go on until out is full.
  *
  * How samples are cut into blocks changes nothing: one after another they give the same symbols as all at once. Every call judges the sheet, so calls that take
  * many samples cost less a sample: out_len decides that, and not values_len alone.

@@ -2,7 +2,7 @@
 //! [`Frontend`](crate::Frontend) stand above them and are what a program needs; the calls are for those who keep sheets and states as places, or who test
 //! the archive. A call answers 0 or the number of a refusal; where it refuses, no place that it was lent is changed.
 //!
-//! [`Sheet::block`] may take fewer pairs than it is offered, where it is lent few places for symbols. Who calls it goes on from how many it took: see there.
+//! [`Sheet::block`] may take fewer pairs than it is offered, where it is lent few places for symbols. Its caller goes on from how many it took: see there.
 //!
 //! All `unsafe` of the crate is here. Each call asks two things of its caller: a pointer is good for its length, and what is lent for writing overlaps
 //! nothing else that is lent. A slice gives the first, and Rust's borrows the second: a `&mut` beside other references. Nothing else can be wrong, since

@@ -21,7 +21,7 @@ use Rattle.state.specs.declared.Frontend.{Frontend}
 use Rattle.state.specs.Start.{atRest, startOf, fresh}
 use Rattle.fixed.specs.Sample.{falls, madeBy, next, after, emitted}
 use Rattle.fixed.specs.Block.{Block, pairsOf, accepted, blockOf}
-use Rattle.state.specs.Check.{goodState, stateFaults, pairsTaken, blockFaults}
+use Rattle.state.specs.Check.{goodState, stateFaults, pairsTaken}
 use Rattle.state.specs.Read.{readOf}
 use Rattle.state.proofs.Going.{Going, going}
 use Rattle.fixed.proofs.States.{run-going}

@@ -51,8 +51,8 @@ pub struct Processed {
     pub count: usize,
 }
 
-// A block of samples, I before Q; the places of its symbols go to `out`, 20 each (RULES 4). With a short `out` it takes fewer pairs than it is given: who
-// calls goes on from `taken`.
+// A block of samples, I before Q; the places of its symbols go to `out`, 20 each (RULES 4). With a short `out` it takes fewer pairs than it is given: its
+// caller goes on from `taken`.
 pub fn process(
     f: Frontend,
     p: Params,

@@ -4,6 +4,21 @@ use replay::answer;
 use replay::answer::Answer;
 use state::FrontendVerdict;
 
+// Whether these are the first numbers of a row, or of a part of one.
+pub(crate) fn begins(row: &[i64], numbers: &[i64]) -> bool {
+    if row.len() < numbers.len() {
+        return false;
+    }
+    let mut n: usize = 0;
+    while n < numbers.len() {
+        if numbers[n] != rows::at(row, n) {
+            return false;
+        }
+        n += 1;
+    }
+    true
+}
+
 pub(crate) fn of_verdict(v: Verdict) -> Answer {
     match v {
         Verdict::Accepted => answer::alone(0),

@@ -34,20 +34,6 @@ fn keep_values(numbers: &[i64], values: &mut [i16]) -> usize {
 
 // ---- a block's output
 
-fn is_same(a: &[i64], b: &[i64]) -> bool {
-    if a.len() != b.len() {
-        return false;
-    }
-    let mut n: usize = 0;
-    while n < a.len() {
-        if a[n] != rows::at(b, n) {
-            return false;
-        }
-        n += 1;
-    }
-    true
-}
-
 // What an output holds at a place before a block is asked for: a number far below those of symbols.
 fn pattern(place: usize) -> i64 {
     rows::i64_of(std::num::wrapping_sub_u64(0xc000_0000_0000_0000, place as u64))
@@ -77,15 +63,17 @@ fn is_kept_behind(out: &[i64], count: usize) -> bool {
     true
 }
 
-// Whether a row 10 has the answer of a block that was given this output: where it is refused, none of the output is written.
+// Whether a row 10 has the answer of a block that was given this output. It has no symbols where it refuses, and then none of the output is written.
 fn is_block(row: &[i64], block: Processed, out: &[i64]) -> bool {
     let verdict = block.verdict;
     let refusal = answer::of_frontend(verdict);
-    rows::at(row, 1) == rows::i64_of(out.len() as u64)
-        && rows::at(row, 2) == rows::i64_of(block.count as u64)
-        && rows::at(row, 3) == rows::i64_of(block.taken as u64)
+    let told = [
+        rows::i64_of(out.len() as u64),
+        rows::i64_of(block.count as u64),
+        rows::i64_of(block.taken as u64),
+    ];
+    answer::begins(rows::rest(row, 1), &told)
         && refusal.is(rows::rest(row, 4))
-        && (refusal.number == 0 || block.count == 0)
         && is_kept_behind(out, block.count)
 }
 
@@ -174,7 +162,7 @@ impl Replay {
             return false;
         }
         let end = from + arith::least(numbers.len(), places - from);
-        is_same(&out[from..end], numbers)
+        numbers.len() == end - from && answer::begins(numbers, &out[from..end])
     }
 
     // Row 12.
@@ -185,9 +173,12 @@ impl Replay {
         let state = self.state;
         let reading = state.read(params, banks.h(room), banks.g(room), banks.k(room));
         let verdict = reading.verdict;
-        rows::at(row, 1) == reading.period as i64
-            && rows::at(row, 2) == reading.gain as i64
-            && rows::at(row, 3) == rows::i64_of(reading.symbols)
+        let told = [
+            reading.period as i64,
+            reading.gain as i64,
+            rows::i64_of(reading.symbols),
+        ];
+        answer::begins(rows::rest(row, 1), &told)
             && answer::of_frontend(verdict).is(rows::rest(row, 4))
     }
 

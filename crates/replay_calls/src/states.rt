@@ -1,5 +1,6 @@
 // A state as 186 numbers: nco, t_acc, v, period, gain_acc, symbols, head, oldest, waiting, samples; the line's 64 pairs i, q; the 24 pairs e, err of the
 // ring in which errors wait. Both as they are stored.
+use crate::answer;
 use registers::Pending;
 use registers::Registers;
 use state::Frontend;
@@ -59,15 +60,6 @@ pub(crate) fn of_numbers(numbers: &[i64]) -> Frontend {
     }
 }
 
-fn are_registers(r: Registers, numbers: &[i64]) -> bool {
-    rows::at(numbers, 0) == r.nco as i64
-        && rows::at(numbers, 1) == r.t_acc
-        && rows::at(numbers, 2) == r.v
-        && rows::at(numbers, 3) == r.period as i64
-        && rows::at(numbers, 4) == r.gain_acc as i64
-        && rows::at(numbers, 5) == rows::i64_of(r.symbols)
-}
-
 // Whether the numbers have these two as their n-th pair.
 fn has_pair(numbers: &[i64], n: usize, a: i32, b: i32) -> bool
     requires { ⌜ n < 64 ⌝ }
@@ -104,12 +96,20 @@ pub(crate) fn is(state: Frontend, numbers: &[i64]) -> bool {
     let registers = state.registers;
     let line = state.line;
     let pending = state.pending;
+    let first = [
+        registers.nco as i64,
+        registers.t_acc,
+        registers.v,
+        registers.period as i64,
+        registers.gain_acc as i64,
+        rows::i64_of(registers.symbols),
+        rows::i64_of(state.head as u64),
+        rows::i64_of(state.oldest as u64),
+        rows::i64_of(state.waiting as u64),
+        rows::i64_of(state.samples),
+    ];
     numbers.len() == 186
-        && are_registers(registers, numbers)
-        && rows::at(numbers, 6) == rows::i64_of(state.head as u64)
-        && rows::at(numbers, 7) == rows::i64_of(state.oldest as u64)
-        && rows::at(numbers, 8) == rows::i64_of(state.waiting as u64)
-        && rows::at(numbers, 9) == rows::i64_of(state.samples)
+        && answer::begins(numbers, &first)
         && is_line(line, rows::rest(numbers, 10))
         && is_pending(pending, rows::rest(numbers, 138))
 }

@@ -30,12 +30,12 @@ goodState p f =
 abbrev pub stateFaults : Sheet → Frontend → List Refusal
 stateFaults s f = faults s ++ unless (goodState (s .params) f) (refusal 9 [])
 
--- How many pairs of so many sample values a block takes, with so many output places: all, or as many as there are 20 places for. Both are whole pairs.
+-- How many pairs of so many sample values a block takes, with so many output places: all, or as many as there are 20 places for. Both are rounded down.
 unfoldable pub pairsTaken : ℕ → ℕ → ℕ
 pairsTaken values places = min (values / 2) (places / 20)
 
--- 10 to 12, of so many sample values and output places: an odd number of values, be they taken or not; values, and no 20 places for a symbol; more samples in
--- all than 2^63 - 1, with the pairs that would be taken.
+-- 10 to 12, of so many sample values and output places: an odd number of values, be they taken or not; values, but fewer than 20 places; more samples in all
+-- than 2^63 - 1, with the pairs that would be taken.
 unfoldable pub sizeFaults : Frontend → ℕ → ℕ → List Refusal
 sizeFaults f values places =
     flatten

@@ -35,7 +35,7 @@ fn is_good_state(p: Params, r: Registers, w: Position) -> bool
         && r.symbols <= w.samples
 }
 
-// How many pairs of so many sample values a block takes, with so many output places (RULES 4.2).
+// How many pairs of so many sample values a block takes, with so many output places (RULES 4).
 pub fn pairs_taken(values: usize, places: usize) -> usize
     ensures { λ r. ⌜ r ≡ pairsTaken values places ⌝ }
 {

@@ -1,4 +1,4 @@
--- A list of block calls is one run over the samples that its calls took: an accepted call is a run over its own pairs, and a refused one a run over none.
+-- A list of block calls is one run over the samples that its calls took: a call is a run over its first pairs, as many as it took, and a refused one took none.
 -- So its end state, its symbols and their count are that run's, whatever the blocks and refusals were.
 use Prim.Native.Nat.{ℕ, _*_}
 use mathlib.Core.Path.{_≡_, refl, sym, ap, _∙_}

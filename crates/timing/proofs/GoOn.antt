@@ -1,6 +1,6 @@
 -- A list of block calls never meets refusal 9. The invariant of runs gives each test that a block makes of a state: the registers stay within their clamps,
 -- the positions within the line and the queue, and there is at most one symbol a sample. So only what a call brings itself, 10 to 12, can refuse it.
-use Prim.Native.Nat.{ℕ, _+_, _*_, _/_, _%_, _≤_}
+use Prim.Native.Nat.{ℕ, _+_, _%_, _≤_}
 use mathlib.Core.Path.{_≡_, refl, sym, ap, _∙_, subst}
 use mathlib.Core.Logic.{_⊎_, inl, inr}
 use mathlib.Core.Bool.{Bool, true, false, _||_}
@@ -16,7 +16,7 @@ use Rattle.symbol.specs.declared.Symbol.{Symbol}
 use Rattle.state.specs.Start.{startOf}
 use Rattle.state.specs.Check.{goodState, stateFaults, pairsTaken, sizeFaults, blockFaults}
 use Rattle.fixed.proofs.Refused.{number-first}
-use Rattle.timing.specs.Lists.{Call, answer, endState}
+use Rattle.timing.specs.Lists.{Call, endState}
 use Rattle.timing.specs.Timing.{StatesGoOn}
 use Rattle.state.proofs.Going.{Going, good}
 use Rattle.timing.proofs.Invariant.{sheetDelay, Inv, loopAt-within}

@@ -1,6 +1,6 @@
 -- What holds of every list of block calls from a fresh start, refused calls among them, and of every two such lists under one sheet.
 -- The claims are about the places that the calls wrote and the states that they handed back, and nothing in them is left abstract.
--- (RULES 5.2, 5.3)
+-- (RULES 5.2 to 5.4)
 use Prim.Native.Nat.{ℕ, _+_, _*_, _/_, _%_, _≤_, _<_}
 use mathlib.Core.Path.{_≡_}
 use mathlib.Core.Logic.{_⊎_}
@@ -118,7 +118,6 @@ StatesGoOn =
 -- ---- what a caller can count on that is given a short output
 
 -- A call takes no more pairs than it is given, and if it is given one and refuses nothing, it takes one at least, whatever the sheet and the state.
--- (RULES 5.4)
 pub record Advances (s : Sheet) (f : Frontend) (c : Call) : Type 0 where
   pub given : answer s f c .taken ≤ length (pairsOf (c .values))
   pub some : answer s f c .refused .number ≡ 0 → 0 < length (pairsOf (c .values)) → 0 < answer s f c .taken
@@ -126,8 +125,8 @@ pub record Advances (s : Sheet) (f : Frontend) (c : Call) : Type 0 where
 abbrev pub CallsAdvance : Type 0
 CallsAdvance = (s : Sheet) (f : Frontend) (c : Call) → Advances s f c
 
--- So a caller that offers what is left, behind any list, comes to an end: with whole pairs that can be counted, 20 places or more each time and as many calls as
--- pairs, all of them are taken, each once and in their order.
+-- So a caller that offers what is left, behind any list, comes to an end: with whole pairs that can be counted, 20 places or more each time and as many calls
+-- as pairs, all of them are taken, each once and in their order.
 abbrev pub OffersEnd : Type 0
 OffersEnd =
     (s : Sheet) → startOf s .refused ≡ nothing → (cs : List Call) (values : List ℤ) (outs : List (List ℤ))

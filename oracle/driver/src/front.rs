@@ -81,6 +81,7 @@ impl<'a> Front<'a> {
                 let (reading, state) = &mut **run;
                 let block = reading.block(state, pairs.as_flattened(), SYMBOL * pairs.len());
                 assert_eq!(block.refusal, [], "a block of a run");
+                assert_eq!(block.taken, pairs.len(), "there were places for all");
                 *state = block.state;
                 block.output
             }

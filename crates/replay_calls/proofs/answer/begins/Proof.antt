@@ -1,15 +1,15 @@
--- `replay_calls::calls::is_same` is safe and ends: each turn compares one more number of the first.
+-- `replay_calls::answer::begins` is safe and ends: each turn compares one number more.
 use Prim.Native.Nat.{_≤_, _-_}
 use lib.ListN.{length}
 use borrow.Author.Needs.{needs}
-use Rattle.replay_calls.proofs.calls.is_same.Statement.{statement}
-use Rattle.replay_calls.proofs.calls.is_same.Tie as tie
+use Rattle.replay_calls.proofs.answer.begins.Statement.{statement}
+use Rattle.replay_calls.proofs.answer.begins.Tie as tie
 
 abbrev Inv-loop : tie.InvT-loop
-Inv-loop a b n₀ n = n ≤ length a
+Inv-loop row numbers n₀ n = n ≤ length numbers
 
 abbrev μ-loop : tie.MeasureT-loop
-μ-loop a b n₀ n = length a - n
+μ-loop row numbers n₀ n = length numbers - n
 
 returns : tie.Need-returns Inv-loop μ-loop
 returns c = search needs
@@ -41,8 +41,8 @@ loop-again c = search needs
 returns-3 : tie.Need-returns-3 Inv-loop μ-loop
 returns-3 c = search needs
 
-pub is-same-spec : {M : Type 1} → statement M
-is-same-spec =
+pub begins-spec : {M : Type 1} → statement M
+begins-spec =
     tie.close
     (tie.spec
     Inv-loop
