@@ -1,4 +1,4 @@
-// The pairs, through the front end in blocks. What is printed does not depend on their size.
+// The pairs, through the front end in blocks, and each block in one call or more. What is printed does not depend on the sizes of blocks and calls.
 use crate::input::Input;
 use crate::output::Output;
 use crate::sheet::Head;
@@ -57,40 +57,55 @@ fn block_of(before: Input, first: u64, values: &mut [i16], bytes: &mut [u8]) -> 
 }
 
 impl Progress {
+    // Before the first pair.
+    fn new(head: Head, h: &[i32], g: &[i32], k: &[i32]) -> Progress {
+        let params = head.params;
+        let started = Frontend::new(params, h, g, k);
+        let verdict = started.verdict;
+        let number = verdict.number();
+        let state = started.state;
+        let rest = head.rest;
+        let mut stop = head.stop;
+        if stop.is_no() && 0 < number {
+            stop = Stop::Refused { number, line: 0 };
+        }
+        Progress {
+            state,
+            rest,
+            line: FIRST,
+            output: Output::new(),
+            stop,
+        }
+    }
+
     fn goes_on(self) -> bool {
         let stop = self.stop;
         stop.is_no()
     }
 
-    fn with_stop(self, stop: Stop) -> Progress {
-        let state = self.state;
+    // With what a call made of the pairs that it took, and the number of its refusal. Its symbols are printed.
+    fn with_call(self, done: Processed, number: u32, places: &[i64], out: &mut [u8]) -> Progress {
+        let state = done.state;
         let rest = self.rest;
-        let output = self.output;
+        let before = self.output;
+        let output = before.with_symbols(places, done.count, out);
+        let mut stop = self.stop;
+        if 0 < number {
+            stop = Stop::Refused { number, line: 0 };
+        }
+        if !output.is_good() {
+            stop = Stop::Failed;
+        }
         Progress {
             state,
             rest,
-            line: self.line,
+            line: std::num::wrapping_add_u64(self.line, done.taken as u64),
             output,
             stop,
         }
     }
 
-    // With what a call made of the pairs that it took: its symbols are printed.
-    fn with_call(self, done: Processed, places: &[i64], out: &mut [u8]) -> Progress {
-        let state = done.state;
-        let before = self.output;
-        let output = before.with_symbols(places, done.count, out);
-        let mut next = self;
-        next.state = state;
-        next.line = std::num::wrapping_add_u64(self.line, done.taken as u64);
-        next.output = output;
-        if !output.is_good() {
-            return next.with_stop(Stop::Failed);
-        }
-        next
-    }
-
-    // With these pairs. A call takes as many as it has places for, so each goes on from what those before it took.
+    // With these pairs. A call takes as many as it has places for, so the next one goes on behind them.
     fn with_pairs(
         self,
         params: Params,
@@ -102,42 +117,37 @@ impl Progress {
         out: &mut [u8],
     ) -> Progress {
         let mut next = self;
-        let mut from: usize = 0;
-        while from < values.len() && next.goes_on() {
+        let mut n: usize = 0;
+        while n < values.len() / 2 && next.goes_on() {
             let given = next.state;
-            let done = fixed::process(given, params, h, g, k, &values[from..], places);
+            let done = fixed::process(given, params, h, g, k, &values[2 * n..], places);
             let verdict = done.verdict;
             let number = verdict.number();
+            next = next.with_call(done, number, places, out);
             if 0 < number {
-                return next.with_stop(Stop::Refused { number, line: 0 });
+                return next;
             }
-            next = next.with_call(done, places, out);
-            from += 2 * done.taken;
+            n += done.taken;
         }
         next
     }
 
-    // With one block more. What stopped the block counts once all its pairs are taken.
-    fn with_block(
-        self,
-        params: Params,
-        h: &[i32],
-        g: &[i32],
-        k: &[i32],
-        values: &mut [i16],
-        places: &mut [i64],
-        bytes: &mut [u8],
-        out: &mut [u8],
-    ) -> Progress {
-        let block = block_of(self.rest, self.line, values, bytes);
-        let used = arith::least(block.used, values.len());
-        let mut next = self.with_pairs(params, h, g, k, &values[0..used], places, out);
+    // Behind a block. What stopped it counts, unless its own pairs stopped the program before.
+    fn behind(self, block: Block) -> Progress {
+        let state = self.state;
         let rest = block.rest;
-        next.rest = rest;
-        if next.goes_on() {
-            return next.with_stop(block.stop);
+        let output = self.output;
+        let mut stop = self.stop;
+        if stop.is_no() {
+            stop = block.stop;
         }
-        next
+        Progress {
+            state,
+            rest,
+            line: self.line,
+            output,
+            stop,
+        }
     }
 
     // With the last line.
@@ -163,28 +173,17 @@ pub(crate) fn run(
     bytes: &mut [u8],
     out: &mut [u8],
 ) -> Output {
-    let mut values = [0i16; 2048];
+    // Places for half of the pairs, so that no long input is printed right unless each call goes on from what the one before it took.
+    let mut values = [0i16; 4096];
     let mut places = [0i64; 20480];
     let params = head.params;
-    let started = Frontend::new(params, h, g, k);
-    let verdict = started.verdict;
-    let number = verdict.number();
-    let state = started.state;
-    let mut stop = head.stop;
-    if stop.is_no() && 0 < number {
-        stop = Stop::Refused { number, line: 0 };
-    }
-    let rest = head.rest;
-    let mut r = Progress {
-        state,
-        rest,
-        line: FIRST,
-        output: Output::new(),
-        stop,
-    };
+    let mut r = Progress::new(head, h, g, k);
     let mut turns = u64::MAX;
     while 0 < turns && r.goes_on() {
-        r = r.with_block(params, h, g, k, &mut values, &mut places, bytes, out);
+        let block = block_of(r.rest, r.line, &mut values, bytes);
+        let used = arith::least(block.used, values.len());
+        r = r.with_pairs(params, h, g, k, &values[0..used], &mut places, out);
+        r = r.behind(block);
         turns -= 1;
     }
     r.ended(out)

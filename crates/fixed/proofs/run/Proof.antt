@@ -141,8 +141,7 @@ run-requires c κs =
     let f = ok s in
     let b = begins c in
     let n = taken (choice c) in
-    let values = take (2 * n) (s .args .values .now) in
-    (
+    let values = take (2 * n) (s .args .values .now) in (
       record {
         accepted = f .judged-so;
         good = outline-good (s .args .p) (s .args .f) (c .position .ensures) ∙ f .good;
@@ -154,7 +153,7 @@ run-requires c κs =
       (
         has-places values n _ (lent (choice c)) (roomy (choice c)),
         has-samples values n (c .position .result .samples) (lent (choice c))
-        (omega (arith, f .sizes .few, choice c .pairs-taken .ensures, b .samples)),
+            (omega (arith, f .sizes .few, choice c .pairs-taken .ensures, b .samples)),
       ),
     )
 

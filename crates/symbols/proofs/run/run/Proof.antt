@@ -1,30 +1,21 @@
 -- `symbols::run::run` is safe and ends: the turns run out.
 -- The rooms keep their lengths.
-use mathlib.Core.Path.{_≡_}
+use mathlib.Core.Path.{_≡_, _∙_}
+use native.Mathlib.Omega.{arith}
 use lib.ListN.{length}
 use borrow.Author.Needs.{needs}
 use Rattle.symbols.proofs.run.run.Statement.{statement}
 use Rattle.symbols.proofs.run.run.Tie as tie
 
 abbrev Inv-loop : tie.InvT-loop
-Inv-loop h g k bytes₀ out₀ values₀ places₀ params number r₀ turns₀ bytes out values places r turns =
-    (length bytes ≡ length bytes₀) × (length out ≡ length out₀) × (length values ≡ 2048) × (length places ≡ 20480)
+Inv-loop h g k bytes₀ out₀ values₀ places₀ params r₀ turns₀ bytes out values places r turns =
+    (length bytes ≡ length bytes₀) × (length out ≡ length out₀) × (length values ≡ 4096) × (length places ≡ 20480)
 
 abbrev μ-loop : tie.MeasureT-loop
-μ-loop h g k bytes₀ out₀ values₀ places₀ params number r₀ turns₀ bytes out values places r turns =
-    turns
+μ-loop h g k bytes₀ out₀ values₀ places₀ params r₀ turns₀ bytes out values places r turns = turns
 
 new-requires : tie.Need-new-requires Inv-loop μ-loop
 new-requires c κs = search needs
-
-number-requires : tie.Need-number-requires Inv-loop μ-loop
-number-requires c κs = search needs
-
-is-no-requires : tie.Need-is-no-requires Inv-loop μ-loop
-is-no-requires c κs = search needs
-
-new-requires-2 : tie.Need-new-requires-2 Inv-loop μ-loop
-new-requires-2 c κs = search needs
 
 loop-holds : tie.Need-loop-holds Inv-loop μ-loop
 loop-holds c = search needs
@@ -32,23 +23,58 @@ loop-holds c = search needs
 goes-on-requires : tie.Need-goes-on-requires Inv-loop μ-loop
 goes-on-requires c κs = search needs
 
-slice-aggregate-with-block : tie.Need-slice-aggregate-with-block Inv-loop μ-loop
-slice-aggregate-with-block c = search needs
+slice-aggregate-block-of : tie.Need-slice-aggregate-block-of Inv-loop μ-loop
+slice-aggregate-block-of c = search needs
 
-slice-aggregate-with-block-2 : tie.Need-slice-aggregate-with-block-2 Inv-loop μ-loop
-slice-aggregate-with-block-2 c = search needs
+block-of-requires : tie.Need-block-of-requires Inv-loop μ-loop
+block-of-requires c κs = search needs
 
-with-block-requires : tie.Need-with-block-requires Inv-loop μ-loop
-with-block-requires c κs = search needs
+least-requires : tie.Need-least-requires Inv-loop μ-loop
+least-requires c κs = search needs
+
+sub-with-pairs : tie.Need-sub-with-pairs Inv-loop μ-loop
+sub-with-pairs c = search needs
+
+part-with-pairs-start : tie.Need-part-with-pairs-start Inv-loop μ-loop
+part-with-pairs-start c = search needs
+
+part-with-pairs-end : tie.Need-part-with-pairs-end Inv-loop μ-loop
+part-with-pairs-end c = search needs
+
+slice-aggregate-with-pairs : tie.Need-slice-aggregate-with-pairs Inv-loop μ-loop
+slice-aggregate-with-pairs c = search needs
+
+with-pairs-requires : tie.Need-with-pairs-requires Inv-loop μ-loop
+with-pairs-requires c κs = search needs
+
+behind-requires : tie.Need-behind-requires Inv-loop μ-loop
+behind-requires c κs = search needs
+
+-- a turn
+module _ (c : tie.After-behind Inv-loop μ-loop) where
+  abbrev took : tie.After-with-pairs Inv-loop μ-loop
+  took = c .before .before .before .before
+
+  abbrev read : tie.After-block-of Inv-loop μ-loop
+  read = took .before .before .before .before .before .before .before .before .before
+
+  abbrev turn : tie.In-loop Inv-loop μ-loop
+  turn = read .before .before .before .before .before
 
 sub-turns : tie.Need-sub-turns Inv-loop μ-loop
-sub-turns c = search needs
+sub-turns c = turn c .loop-test .taken
 
 loop-less : tie.Need-loop-less Inv-loop μ-loop
-loop-less c = search needs
+loop-less c = omega (arith, turn c .loop-test .taken)
 
 loop-again : tie.Need-loop-again Inv-loop μ-loop
-loop-again c = search needs
+loop-again c =
+    let inv = turn c .before .loop .inv in (
+      read c .block-of .kept .1 .1 .1 .0 ∙ inv .0,
+      took c .with-pairs .kept .1 .1 .1 .1 .1 .1 .1 .0 ∙ inv .1,
+      read c .block-of .kept .1 .1 .0 ∙ inv .2,
+      took c .with-pairs .kept .1 .1 .1 .1 .1 .1 .0 ∙ inv .3,
+    )
 
 ended-requires : tie.Need-ended-requires Inv-loop μ-loop
 ended-requires c κs = search needs
@@ -69,14 +95,17 @@ run-spec =
     Inv-loop
     μ-loop
     new-requires
-    number-requires
-    is-no-requires
-    new-requires-2
     loop-holds
     goes-on-requires
-    slice-aggregate-with-block
-    slice-aggregate-with-block-2
-    with-block-requires
+    slice-aggregate-block-of
+    block-of-requires
+    least-requires
+    sub-with-pairs
+    part-with-pairs-start
+    part-with-pairs-end
+    slice-aggregate-with-pairs
+    with-pairs-requires
+    behind-requires
     sub-turns
     loop-less
     loop-again
