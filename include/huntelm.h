@@ -17,6 +17,11 @@
  *   As many of the pairs that it is offered as out has room for a symbol each, and it says how many. The others it has not looked at: offer them again, or they
  *   are lost without a refusal (huntelm_block has the loop).
  *
+ * What clips say
+ *   The six numbers y, dy, yk and z, dz, zk of a symbol have 16 bits, I and Q each. One that is too large for them is clipped: it becomes 32767 or -32768, and
+ *   what was beyond is lost. A block counts these numbers, 12 a symbol at most, and 0 where nothing was clipped. Where there are clips the gain of the dish is
+ *   too high, as a rule: lower it until there are none. docs/GUIDE.md has the loop, and says what the count does not see.
+ *
  * What a period says
  *   The period of one symbol, or of a state, has the loop's correction for one noisy error in it, and jumps by thousands of parts in a million from symbol to
  *   symbol. What says how fast the sender's clock is beside the recorder's is the mean of the periods of thousands of symbols, once the loop has locked
@@ -163,10 +168,11 @@ enum huntelm_state_place {
     HUNTELM_STATE_PENDING = 138 /* from here a ring of 24 pairs e, err, whatever the delay; those that wait stand from the oldest on, and behind 23 comes 0 */
 };
 
-/* What huntelm_block writes to answer. The places behind these two stay as they were; those up to HUNTELM_BLOCK_PLACES are kept free. */
+/* What huntelm_block writes to answer. The places behind these three stay as they were; those up to HUNTELM_BLOCK_PLACES are kept free. */
 enum huntelm_block_place {
     HUNTELM_BLOCK_COUNT = 0, /* symbols that it wrote */
-    HUNTELM_BLOCK_TAKEN = 1  /* pairs that it took, which may be fewer than it was offered */
+    HUNTELM_BLOCK_TAKEN = 1, /* pairs that it took, which may be fewer than it was offered */
+    HUNTELM_BLOCK_CLIPS = 2  /* numbers of these symbols that 16 bits were too few for: 0 .. 12 a symbol, and 0 where nothing was clipped */
 };
 
 /* What huntelm_read writes. */
@@ -231,13 +237,17 @@ uint32_t huntelm_start(const int64_t *sheet, size_t sheet_len, const int32_t *h,
  *
  * The call takes values_len / 2 or out_len / 20 pairs, whichever is less, both rounded down. It takes the state further, writes 20 places for each symbol to
  * out, one symbol after the other, and leaves the places behind them as they were. Into answer, of at least 4 places, it writes how many symbols these
- * are, which may be 0, and how many pairs it took; the other places stay as they were (enum huntelm_block_place). Answers 0.
+ * are, which may be 0, how many pairs it took, and how many numbers of these symbols were clipped; the other places stay as they were (enum
+ * huntelm_block_place). Answers 0.
+ *
+ * Clips are those of this call alone: whoever wants those of a run adds them up. y, dy, yk, z, dz and zk count, I and Q each, and nothing else: not the output
+ * q, no error, no period and no gain. A number that is 32767 or -32768 without having been clipped does not count, and a pair without a symbol counts nothing.
  *
  * With 20 places for each pair it takes all. With fewer, where nothing is refused, all is as if it had been lent only the pairs that it takes. A pair gives
  * one symbol at most and often none, so places may be left; it does not go on until out is full.
  *
- * How samples are cut into blocks changes nothing: one after another they give the same symbols as all at once. Every call judges the sheet, so calls that take
- * many samples cost less a sample: out_len decides that, and not values_len alone.
+ * How samples are cut into blocks changes nothing: one after another they give the same symbols as all at once, and as many clips. Every call judges the
+ * sheet, so calls that take many samples cost less a sample: out_len decides that, and not values_len alone.
  *
  * Go on with the sheet and the banks of the start. Under others a state may be refused (9), or taken as one of theirs. Under another delay it is refused
  * unless as many errors wait as that delay asks for (HUNTELM_STATE_WAITING).

@@ -93,15 +93,16 @@ done
 # Offsets alone: accepted sheets, each asked for ties and their neighbours, its ends, and rests next to a half.
 replayed "offsets, ties and ends among them" replay_calls $checked offsets 1 $((4000 * SCALE))
 
-# The path: runs from a fresh start in blocks of all sizes, many of them with outputs for some of their pairs only and the rest offered again, 1.3 million
-# symbols in all. The driver also holds each answer of isdb-rs against its own reading.
-for kind in designed extreme mixed; do
+# The path: runs from a fresh start in blocks of all sizes, many of them with outputs for some of their pairs only and the rest offered again, 1.37 million
+# symbols in all, with any number of clips from 0 to 12, and 17,000 numbers at an end of 16 bits or just past it under the clipping sheets. The driver also
+# holds each answer of isdb-rs against its own reading, and the clips that the reading counts against those that follow from isdb-rs's symbols.
+for kind in designed extreme mixed clipping; do
     replayed "starting, blocks and readings, $kind sheets" replay_calls $checked path $kind 1 $((700 * SCALE))
 done
 
-# The same at every delay from 1 to 24, by isdb-rs with that number for its constant, and each time held against the reading too. Of 1,440 sheets 1,299 are
-# accepted and run, at least 50 at each delay; the others are refused.
-for kind in designed extreme mixed; do
+# The same at every delay from 1 to 24, by isdb-rs with that number for its constant, and each time held against the reading too. Of 1,920 sheets 1,779 are
+# accepted and run, at least 70 at each delay; the others are refused.
+for kind in designed extreme mixed clipping; do
     replayed "starting, blocks and readings at each delay, $kind sheets" replay_calls runs_at_each_delay $kind $((20 * SCALE))
 done
 

@@ -63,14 +63,15 @@ static uint32_t block(const int16_t *values, size_t values_len, size_t out_len, 
     return huntelm_block(FULL, state, HUNTELM_STATE_PLACES, values, values_len, out, out_len, answer, answer_len);
 }
 
-/* A block that is not refused: how many symbols it writes and how many pairs it takes. Places behind the symbols, and behind these two numbers, stay. */
+/* A block of a signal that nothing clips: how many symbols it writes and how many pairs it takes. Places behind the symbols, and behind the numbers, stay. */
 static void expect_block(const char *what, const int16_t *values, size_t values_len, size_t out_len, int64_t count, int64_t taken) {
     mark();
     expect(what, block(values, values_len, out_len, HUNTELM_BLOCK_PLACES), HUNTELM_ACCEPTED);
     expect(what, answer[HUNTELM_BLOCK_COUNT], count);
     expect(what, answer[HUNTELM_BLOCK_TAKEN], taken);
+    expect("no clips", answer[HUNTELM_BLOCK_CLIPS], 0);
     expect("no place behind the symbols", written_from(out, (size_t)count * HUNTELM_SYMBOL_PLACES, OUT), 0);
-    expect("no place behind the two numbers", written_from(answer, 2, ANSWER), 0);
+    expect("no place behind the three numbers", written_from(answer, 3, ANSWER), 0);
 }
 
 /* A block that is refused, and leaves state, symbols' places and answer as they were. */
@@ -195,9 +196,13 @@ static int64_t least(size_t a, size_t b) {
     return (int64_t)(a < b ? a : b);
 }
 
-/* Offers the values, and then what is left of them, until nothing is, with so many places for symbols. All symbols go to list; answers how many they are. */
-static int64_t run(const int16_t *values, size_t values_len, size_t out_len, int64_t *list) {
+/*
+ * Offers the values, and then what is left of them, until nothing is, with so many places for symbols. All symbols go to list and all clips to clips; answers
+ * how many symbols they are.
+ */
+static int64_t run(const int16_t *values, size_t values_len, size_t out_len, int64_t *list, int64_t *clips) {
     int64_t symbols = 0;
+    *clips = 0;
     while (values_len > 0) {
         int64_t taken = least(values_len / 2, out_len / HUNTELM_SYMBOL_PLACES);
         size_t places;
@@ -209,29 +214,36 @@ static int64_t run(const int16_t *values, size_t values_len, size_t out_len, int
         expect("no place behind its symbols", written_from(out, places, OUT), 0);
         memcpy(list + HUNTELM_SYMBOL_PLACES * symbols, out, places * sizeof *list);
         symbols += answer[HUNTELM_BLOCK_COUNT];
+        *clips += answer[HUNTELM_BLOCK_CLIPS];
         values += 2 * answer[HUNTELM_BLOCK_TAKEN];
         values_len -= 2 * (size_t)answer[HUNTELM_BLOCK_TAKEN];
     }
     return symbols;
 }
 
-/* However few the places, what is left offered again makes the run of one block with enough of them. */
+/* However few the places, what is left offered again makes the run of one block with enough of them. The signal is loud, so that there are clips. */
 static void short_buffers(void) {
     static int16_t values[2 * PAIRS];
     static int64_t whole[PAIRS * HUNTELM_SYMBOL_PLACES], parts[PAIRS * HUNTELM_SYMBOL_PLACES], end[HUNTELM_STATE_PLACES];
-    size_t places;
+    int64_t clips;
+    size_t n, places;
     noise(values);
+    for (n = 0; n < 2 * PAIRS; n++) values[n] = (int16_t)(4 * values[n]);
     fill();
+    for (n = 0; n < BANK; n += TAPS) h[n] = 131071;
     sheet[HUNTELM_SHEET_DELAY] = 3;
+    sheet[HUNTELM_SHEET_AGC_INIT] = 524288;
     expect("starting", huntelm_start(FULL, end, HUNTELM_STATE_PLACES), HUNTELM_ACCEPTED);
     expect("all at once", huntelm_block(FULL, end, HUNTELM_STATE_PLACES, values, 2 * PAIRS, whole, PAIRS * HUNTELM_SYMBOL_PLACES, answer, ANSWER),
            HUNTELM_ACCEPTED);
     expect("its symbols", answer[HUNTELM_BLOCK_COUNT], 13);
     expect("its pairs", answer[HUNTELM_BLOCK_TAKEN], PAIRS);
+    expect("its clips, worked out from the noise by docs/RULES.md", answer[HUNTELM_BLOCK_CLIPS], 68);
     for (places = HUNTELM_SYMBOL_PLACES; places <= 45; places++) {
         expect("starting", huntelm_start(FULL, state, HUNTELM_STATE_PLACES), HUNTELM_ACCEPTED);
-        expect("symbols of all parts", run(values, 2 * PAIRS, places, parts), 13);
+        expect("symbols of all parts", run(values, 2 * PAIRS, places, parts, &clips), 13);
         expect("they are those of the whole", memcmp(parts, whole, 13 * HUNTELM_SYMBOL_PLACES * sizeof *parts), 0);
+        expect("and so are the clips", clips, 68);
         expect("and so is the end", memcmp(state, end, sizeof end), 0);
     }
 }
@@ -266,7 +278,7 @@ static void first_pairs(void) {
     }
 }
 
-/* What a block says needs four places, of which the last two stay as they were. */
+/* What a block says needs four places, of which the last stays as it was. */
 static void places_of_the_answer(void) {
     static const int16_t values[6] = {1000, -1000, 0, 0, -1000, 1000};
     size_t places;
@@ -283,8 +295,130 @@ static void places_of_the_answer(void) {
         expect("an answer that is long enough", block(values, 6, 45, places), HUNTELM_ACCEPTED);
         expect("symbols", answer[HUNTELM_BLOCK_COUNT], 1);
         expect("pairs", answer[HUNTELM_BLOCK_TAKEN], 2);
-        expect("two places of the answer", written_from(answer, 0, ANSWER), 2);
+        expect("clips", answer[HUNTELM_BLOCK_CLIPS], 0);
+        expect("three places of the answer", written_from(answer, 0, ANSWER), 3);
     }
+}
+
+/*
+ * The clips of the symbol on one sample, where the rows of h, g and k begin with these coefficients and have 0 behind them, and the gain is so many 1024ths.
+ * The mixer leaves a component of 8192 as it is, and the coefficient 65536 makes 32768 of it.
+ */
+static int64_t clips_of(int32_t of_h, int32_t of_g, int32_t of_k, int64_t gain, int i, int q) {
+    static int32_t k[BANK];
+    int16_t values[2];
+    size_t n;
+    fill();
+    for (n = 0; n < BANK; n += TAPS) {
+        h[n] = of_h;
+        g[n] = of_g;
+        k[n] = of_k;
+    }
+    sheet[HUNTELM_SHEET_AGC_INIT] = 256 * gain;
+    values[0] = (int16_t)i;
+    values[1] = (int16_t)q;
+    expect("starting", huntelm_start(sheet, 18, h, BANK, g, BANK, k, BANK, state, HUNTELM_STATE_PLACES), HUNTELM_ACCEPTED);
+    expect("a block", huntelm_block(sheet, 18, h, BANK, g, BANK, k, BANK, state, HUNTELM_STATE_PLACES, values, 2, out, OUT, answer, ANSWER),
+           HUNTELM_ACCEPTED);
+    expect("its symbol", answer[HUNTELM_BLOCK_COUNT], 1);
+    expect("its pair", answer[HUNTELM_BLOCK_TAKEN], 1);
+    expect("three places of the answer", written_from(answer, 0, ANSWER), 3);
+    return answer[HUNTELM_BLOCK_CLIPS];
+}
+
+/* 32767 and -32768 are no clips themselves. What counts is the rounded number, and a half is rounded upward. */
+static void ends_of_16_bits(void) {
+    expect("a filter gives 32767", clips_of(65534, 0, 0, 1024, 8192, 0), 0);
+    expect("it is 32767", out[HUNTELM_SYMBOL_Y_I], 32767);
+    expect("32767.5, which is 32768", clips_of(65535, 0, 0, 1024, 8192, 0), 1);
+    expect("it is 32767 too", out[HUNTELM_SYMBOL_Y_I], 32767);
+    expect("a filter gives -32768", clips_of(65536, 0, 0, 1024, -8192, 0), 0);
+    expect("it is -32768", out[HUNTELM_SYMBOL_Y_I], -32768);
+    expect("-32768.5, which is -32768", clips_of(65537, 0, 0, 1024, -8192, 0), 0);
+    expect("-32769", clips_of(65538, 0, 0, 1024, -8192, 0), 1);
+    expect("it is -32768 too", out[HUNTELM_SYMBOL_Y_I], -32768);
+    expect("16384 with a gain just below 2", clips_of(32768, 0, 0, 2047, 8192, 0), 0);
+    expect("16384 with a gain of 2", clips_of(32768, 0, 0, 2048, 8192, 0), 1);
+    expect("-16384 with a gain of 2", clips_of(32768, 0, 0, 2048, -8192, 0), 0);
+    expect("-16384 with a gain just above 2", clips_of(32768, 0, 0, 2049, -8192, 0), 1);
+    expect("21845 with a gain of 1.5, which is 32768", clips_of(43690, 0, 0, 1536, 8192, 0), 1);
+    expect("-21845 with a gain of 1.5, which is -32767", clips_of(43690, 0, 0, 1536, -8192, 0), 0);
+}
+
+/* The clips where one bank alone has coefficients other than 0. */
+static int64_t clips_of_bank(int bank, int32_t coefficient, int64_t gain, int i, int q) {
+    return clips_of(bank == 0 ? coefficient : 0, bank == 1 ? coefficient : 0, bank == 2 ? coefficient : 0, gain, i, q);
+}
+
+/* A bank gives a component one number before the gain and one behind it. Here the other component is 0. */
+static void expect_two_numbers(int bank, int i, int q) {
+    expect("none", clips_of_bank(bank, 32768, 1024, i, q), 0);
+    expect("before the gain", clips_of_bank(bank, 131071, 1024, i, q), 1);
+    expect("behind the gain", clips_of_bank(bank, 32768, 3072, i, q), 1);
+    expect("both", clips_of_bank(bank, 131071, 3072, i, q), 2);
+    /* Half of 65535.5 would be too large, but the gain is for the number that was clipped, 32767. */
+    expect("before a gain of a half", clips_of_bank(bank, 131071, 512, i, q), 1);
+}
+
+/* Three banks, I and Q, before the gain and behind it: twelve numbers may be clipped. */
+static void twelve_numbers(void) {
+    int bank;
+    for (bank = 0; bank < 3; bank++) {
+        expect_two_numbers(bank, 8192, 0);
+        expect_two_numbers(bank, -8192, 0);
+        expect_two_numbers(bank, 0, 8192);
+        expect_two_numbers(bank, 0, -8192);
+    }
+    expect("all filters", clips_of(131071, 131071, 131071, 1024, 8192, -8192), 6);
+    expect("all that the gain gives", clips_of(32768, 32768, 32768, 3072, -8192, 8192), 6);
+    expect("all twelve", clips_of(131071, 131071, 131071, 3072, 8192, -8192), 12);
+    expect("negative coefficients", clips_of(-131071, -131071, -131071, 3072, 8192, -8192), 12);
+    expect("silence", clips_of(131071, 131071, 131071, 65535, 0, 0), 0);
+}
+
+/* The clamps of the output, of the errors and of the loop count nothing. */
+static void other_clamps(void) {
+    static const int16_t values[6] = {8192, 8192, 0, 0, 8192, 8192};
+    size_t n;
+    fill();
+    for (n = 0; n < BANK; n += TAPS) g[n] = 16384;
+    sheet[HUNTELM_SHEET_TED_SHIFT] = 0;
+    sheet[HUNTELM_SHEET_KP] = sheet[HUNTELM_SHEET_KI] = 32767;
+    sheet[HUNTELM_SHEET_INTEGRATOR_MAX] = 1;
+    /* So large that the gain error is below 0 in 32 bits, and takes the whole gain away. */
+    sheet[HUNTELM_SHEET_AGC_TARGET] = 3221225472;
+    sheet[HUNTELM_SHEET_AGC_SHIFT] = 0;
+    sheet[HUNTELM_SHEET_BITS] = 2;
+    sheet[HUNTELM_SHEET_Q_SHIFT] = 0;
+    sheet[HUNTELM_SHEET_DELAY] = 1;
+    expect("starting", huntelm_start(FULL, state, HUNTELM_STATE_PLACES), HUNTELM_ACCEPTED);
+    expect_block("a block", values, 6, OUT, 2, 3);
+    expect("the output is clamped", out[HUNTELM_SYMBOL_Q_I], 1);
+    expect("the timing error is", out[HUNTELM_SYMBOL_E], 8388607);
+    expect("the integrator is", state[HUNTELM_STATE_V], 65536);
+    expect("the period is", state[HUNTELM_STATE_PERIOD], 34225520);
+    expect("the gain accumulator is", state[HUNTELM_STATE_GAIN_ACC], 0);
+}
+
+/* Symbols fall on the first and the third sample here, and are made of that sample alone. */
+static void clips_of_symbols(void) {
+    static const int16_t between[6] = {0, 0, 32767, -32768, 0, 0}, loud[6] = {32767, -32768, 0, 0, 32767, 0};
+    size_t n, room;
+    fill();
+    for (n = 0; n < BANK; n += TAPS) h[n] = 131071;
+    expect("starting", huntelm_start(FULL, state, HUNTELM_STATE_PLACES), HUNTELM_ACCEPTED);
+    expect_block("a sample on which no symbol falls", between, 6, OUT, 2, 3);
+    expect("starting", huntelm_start(FULL, state, HUNTELM_STATE_PLACES), HUNTELM_ACCEPTED);
+    for (room = 0; room < HUNTELM_BLOCK_PLACES; room++)
+        expect_refused("a short answer", loud, 6, OUT, room, HUNTELM_REFUSED_SHORT_OUTPUT);
+    expect_refused("an odd number of values", loud, 5, OUT, ANSWER, HUNTELM_REFUSED_ODD_INPUT);
+    expect_refused("no room for a symbol", loud, 6, 19, ANSWER, HUNTELM_REFUSED_SHORT_OUTPUT);
+    mark();
+    expect("two symbols", block(loud, 6, OUT, ANSWER), HUNTELM_ACCEPTED);
+    expect("y and yk of both components, then of one", answer[HUNTELM_BLOCK_CLIPS], 6);
+    expect("a call counts for itself", block(between, 4, OUT, ANSWER), HUNTELM_ACCEPTED);
+    expect("y and yk of both components", answer[HUNTELM_BLOCK_CLIPS], 4);
+    expect_block("nothing more", loud, 0, 0, 0, 0);
 }
 
 /* 10, then 11 for no room for a symbol, then 12 of the pairs that would be taken, then 11 for a short answer. */
@@ -404,6 +538,7 @@ static void nothing_lent(void) {
     expect("an empty block", huntelm_block(FULL, state, HUNTELM_STATE_PLACES, NULL, 0, NULL, 0, answer, HUNTELM_BLOCK_PLACES), HUNTELM_ACCEPTED);
     expect("its symbols", answer[HUNTELM_BLOCK_COUNT], 0);
     expect("its pairs", answer[HUNTELM_BLOCK_TAKEN], 0);
+    expect("its clips", answer[HUNTELM_BLOCK_CLIPS], 0);
     expect("a block that says nothing", huntelm_block(FULL, state, HUNTELM_STATE_PLACES, NULL, 0, NULL, 0, NULL, 0), HUNTELM_REFUSED_SHORT_OUTPUT);
     expect("a reading to nowhere", huntelm_read(FULL, state, HUNTELM_STATE_PLACES, NULL, 0), HUNTELM_REFUSED_SHORT_OUTPUT);
     expect("an offset to nowhere", huntelm_offset(FULL, 33554432, NULL, 0), HUNTELM_REFUSED_SHORT_OUTPUT);
@@ -472,6 +607,10 @@ int main(void) {
     short_buffers();
     first_pairs();
     places_of_the_answer();
+    ends_of_16_bits();
+    twelve_numbers();
+    other_clamps();
+    clips_of_symbols();
     order();
     refused_delays();
     shortest_delay();

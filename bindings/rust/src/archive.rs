@@ -27,6 +27,9 @@ pub const BLOCK_COUNT: usize = 0;
 /// The place of a block's answer that has how many pairs were taken.
 pub const BLOCK_TAKEN: usize = 1;
 
+/// The place of a block's answer that has how many numbers of its symbols were clipped, 12 a symbol at most: see [`Block::clips`](crate::Block::clips).
+pub const BLOCK_CLIPS: usize = 2;
+
 /// The places of a state that are read here. The others are the archive's alone.
 pub(crate) const STATE_T: usize = 1;
 pub(crate) const STATE_SAMPLES: usize = 9;
@@ -171,9 +174,9 @@ impl Sheet<'_> {
         }
     }
 
-    /// Takes as many pairs of `values`, I before Q, as `out` has room for a symbol each; takes the state on, and writes the symbols to `out`. The first two of
-    /// the four or more places of `answer` become how many symbols were written and how many pairs were taken ([`BLOCK_COUNT`], [`BLOCK_TAKEN`]); the others
-    /// stay as they were.
+    /// Takes as many pairs of `values`, I before Q, as `out` has room for a symbol each; takes the state on, and writes the symbols to `out`. The first three
+    /// of the four or more places of `answer` become how many symbols were written, how many pairs were taken and how many numbers of the symbols were clipped
+    /// ([`BLOCK_COUNT`], [`BLOCK_TAKEN`], [`BLOCK_CLIPS`]); the others stay as they were.
     ///
     /// The pairs behind those that were taken were not looked at. A caller that does not offer them again loses them, and no refusal says so. Where the call is
     /// not refused and was offered a pair, it takes at least one, so this comes to its end:

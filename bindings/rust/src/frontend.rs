@@ -1,7 +1,8 @@
 //! The front end and its symbols: the archive keeps nothing between calls, so the state and the sheet that it goes with are kept here.
 
 use crate::archive::{
-    BLOCK, BLOCK_COUNT, BLOCK_TAKEN, SHEET, STATE, STATE_SAMPLES, STATE_T, SYMBOL, Sheet,
+    BLOCK, BLOCK_CLIPS, BLOCK_COUNT, BLOCK_TAKEN, SHEET, STATE, STATE_SAMPLES, STATE_T, SYMBOL,
+    Sheet,
 };
 use crate::{Params, Refusal};
 
@@ -93,6 +94,32 @@ impl Symbol {
     }
 }
 
+/// What a block says of itself.
+#[derive(Debug, Clone, Copy, Default, PartialEq, Eq)]
+pub struct Block {
+    /// How many symbols it has.
+    pub symbols: usize,
+    /// How many numbers of its symbols were clipped: `y`, `dy`, `yk`, `z`, `dz` and `zk`, I and Q each, where 16 bits were too few for what was computed. So it
+    /// is 12 a symbol at most, and 0 where nothing was lost. A number that came out as 32767 or −32768 without having been cut does not count, and neither does
+    /// any other clamp.
+    ///
+    /// Clips say, as a rule, that the gain of the dish is too high. docs/GUIDE.md says how to set it by them.
+    pub clips: u64,
+    /// How many samples it took.
+    pub taken: usize,
+}
+
+impl Block {
+    /// This block and the one behind it as one.
+    fn with(self, next: Self) -> Self {
+        Self {
+            symbols: self.symbols + next.symbols,
+            clips: self.clips + next.clips,
+            taken: self.taken + next.taken,
+        }
+    }
+}
+
 /// The front end: takes samples and gives symbols, from a fresh start on.
 #[derive(Debug, Clone)]
 pub struct Frontend {
@@ -123,7 +150,7 @@ impl Frontend {
 
     /// Takes a sample, I then Q, and gives the symbol that falls on it, if one does.
     ///
-    /// Every call judges the sheet again, so [`process`](Self::process) costs much less a sample.
+    /// Every call judges the sheet again, so [`process`](Self::process) costs much less a sample. It also says how much was clipped, which this does not.
     ///
     /// # Errors
     ///
@@ -136,10 +163,42 @@ impl Frontend {
         Ok((block.symbols == 1).then(|| Symbol::of(&places)))
     }
 
-    /// Takes a block of samples, all of them, appends its symbols to `out`, and says how many these are.
+    /// Takes a block of samples, all of them, and appends its symbols to `out`. Says how many these are, how many of their numbers were clipped, and that all
+    /// samples were taken.
     ///
-    /// How samples are cut into blocks changes no symbol. Room for a block is kept from call to call, so a caller that clears `out` in between has
-    /// nothing allocated once the largest block has passed.
+    /// How samples are cut into blocks changes no symbol, and not the clips in all. Room for a block is kept from call to call, so a caller that clears `out`
+    /// in between has nothing allocated once the largest block has passed.
+    ///
+    /// This sets the gain of a dish, in steps, by what is clipped:
+    ///
+    /// ```
+    /// # use huntelm::{Frontend, Refusal};
+    /// # struct Dish { gain: i16 }
+    /// # impl Dish {
+    /// #     fn samples(&self) -> Vec<[i16; 2]> { vec![[1000 * self.gain, -700 * self.gain]; 64] }
+    /// #     fn lower_gain(&mut self) { self.gain -= 1; }
+    /// # }
+    /// fn set_gain(dish: &mut Dish, front: &mut Frontend) -> Result<(), Refusal> {
+    ///     let mut symbols = Vec::new();
+    ///     loop {
+    ///         // The first block after a change still has samples from before it, so the second counts.
+    ///         front.process(&dish.samples(), &mut symbols)?;
+    ///         let block = front.process(&dish.samples(), &mut symbols)?;
+    ///         symbols.clear();
+    ///         if block.clips == 0 {
+    ///             return Ok(());
+    ///         }
+    ///         dish.lower_gain();
+    ///     }
+    /// }
+    /// # let k = [65536, 0, 0, 0].repeat(64);
+    /// # let places = [4, 0, 33554432, 32883343, 34225520, 8, 0, 0, 0, 0, 335544, 262144, 16384, 4, 8, 6, 12, 24];
+    /// # let params = huntelm::Params::from_places(&places, vec![0; 256], vec![0; 256], k)?;
+    /// # let (mut dish, mut front) = (Dish { gain: 20 }, Frontend::new(params)?);
+    /// # set_gain(&mut dish, &mut front)?;
+    /// # assert_eq!(dish.gain, 8);
+    /// # Ok::<(), Refusal>(())
+    /// ```
     ///
     /// # Errors
     ///
@@ -148,12 +207,12 @@ impl Frontend {
         &mut self,
         samples: &[[i16; 2]],
         out: &mut Vec<Symbol>,
-    ) -> Result<usize, Refusal> {
+    ) -> Result<Block, Refusal> {
         let (state, before) = (self.state, out.len());
-        let mut left = samples;
-        while !left.is_empty() {
-            match self.process_part(left, out) {
-                Ok(taken) => left = &left[taken..],
+        let mut whole = Block::default();
+        while whole.taken < samples.len() {
+            match self.process_part(&samples[whole.taken..], out) {
+                Ok(part) => whole = whole.with(part),
                 Err(refusal) => {
                     self.state = state;
                     out.truncate(before);
@@ -161,15 +220,15 @@ impl Frontend {
                 }
             }
         }
-        Ok(out.len() - before)
+        Ok(whole)
     }
 
-    /// Takes the first of the samples, as many as there is room for, appends their symbols, and says how many samples these were.
+    /// Takes the first of the samples, as many as there is room for, appends their symbols, and says what the archive says of them.
     fn process_part(
         &mut self,
         samples: &[[i16; 2]],
         out: &mut Vec<Symbol>,
-    ) -> Result<usize, Refusal> {
+    ) -> Result<Block, Refusal> {
         let room = SYMBOL * samples.len().min(PAIRS);
         if self.out.len() < room {
             self.out.resize(room, 0);
@@ -178,7 +237,7 @@ impl Frontend {
         let block = offer(sheet, &mut self.state, samples, &mut self.out)?;
         let (places, _) = self.out[..SYMBOL * block.symbols].as_chunks();
         out.extend(places.iter().map(Symbol::of));
-        Ok(block.taken)
+        Ok(block)
     }
 
     /// The parameters.
@@ -223,12 +282,6 @@ impl Frontend {
     }
 }
 
-/// What a block says of itself.
-struct Block {
-    symbols: usize,
-    taken: usize,
-}
-
 /// Offers samples to the archive. It takes as many of the first as `out` has room for a symbol each, and at least one where there is room for one.
 fn offer(
     sheet: Sheet,
@@ -238,9 +291,10 @@ fn offer(
 ) -> Result<Block, Refusal> {
     let mut answer = [0; BLOCK];
     Refusal::check(sheet.block(state, samples.as_flattened(), out, &mut answer))?;
-    // Neither is more than the pairs of a slice.
+    // Symbols and samples are no more than the pairs of a slice, and clips no more than 12 times as many.
     Ok(Block {
         symbols: answer[BLOCK_COUNT] as usize,
+        clips: answer[BLOCK_CLIPS] as u64,
         taken: answer[BLOCK_TAKEN] as usize,
     })
 }
@@ -291,9 +345,14 @@ mod tests {
             assert_eq!((front.state, &symbols), (state, &kept));
         }
         let mut front = late(3 * PAIRS as i64);
-        let count = front.process(&samples, &mut symbols).unwrap();
-        assert_eq!((count, front.samples()), (3 * PAIRS / 2, i64::MAX as u64));
-        assert_eq!(front.process(&[], &mut symbols), Ok(0));
+        let whole = Block {
+            symbols: 3 * PAIRS / 2,
+            clips: 0,
+            taken: 3 * PAIRS,
+        };
+        assert_eq!(front.process(&samples, &mut symbols), Ok(whole));
+        assert_eq!(front.samples(), i64::MAX as u64);
+        assert_eq!(front.process(&[], &mut symbols), Ok(Block::default()));
     }
 
     /// A block that the archive itself refuses leaves the places that were lent to it alone.

@@ -6,7 +6,8 @@
 //! x86-64 Linux.
 //!
 //! The names are those of isdb-rs's front end. What differs: a bank is one vector, row by row, and the taps are a field; the loop's delay, which is 24
-//! symbols there, is one too; whatever can be refused answers a [`Refusal`]; [`Params::design`] is given banks and gains.
+//! symbols there, is one too; whatever can be refused answers a [`Refusal`]; [`Frontend::process`] answers a [`Block`], which says how much of the signal was
+//! clipped; [`Params::design`] is given banks and gains.
 //!
 //! ```
 //! use huntelm::{Frontend, Params};
@@ -37,8 +38,8 @@
 //! };
 //! let mut front = Frontend::new(params)?;
 //! let mut symbols = Vec::new();
-//! front.process(&[[1000, -1000], [0, 0], [-1000, 1000]], &mut symbols)?;
-//! assert_eq!(symbols.len(), 2);
+//! let block = front.process(&[[1000, -1000], [0, 0], [-1000, 1000]], &mut symbols)?;
+//! assert_eq!((block.symbols, block.clips, block.taken), (2, 0, 3));
 //! assert_eq!((symbols[1].sample, symbols[1].phase, symbols[1].q), (2, 0, [-16, 16]));
 //! # Ok::<(), huntelm::Refusal>(())
 //! ```
@@ -49,7 +50,7 @@ mod input;
 mod params;
 mod refusal;
 
-pub use frontend::{Frontend, Symbol};
+pub use frontend::{Block, Frontend, Symbol};
 pub use input::input_sample;
 pub use params::{Design, Gains, Params};
 pub use refusal::Refusal;

@@ -3,7 +3,7 @@
 mod common;
 
 use common::{RECORDING, recording};
-use huntelm::{Frontend, Symbol};
+use huntelm::{Block, Frontend, Symbol};
 
 const WHOLE: &str = include_str!("../../../crates/symbols/stdin");
 const WHOLE_LIST: &str = include_str!("../../../crates/symbols/stdout");
@@ -30,7 +30,12 @@ fn the_whole_case() {
     assert_eq!((front.samples(), front.symbols(), front.time()), (0, 0, 0));
     assert_eq!((front.period(), front.gain()), (33554432, 1024));
     let mut symbols = Vec::new();
-    assert_eq!(front.process(&pairs, &mut symbols), Ok(2));
+    let block = Block {
+        symbols: 2,
+        clips: 0,
+        taken: 3,
+    };
+    assert_eq!(front.process(&pairs, &mut symbols), Ok(block));
     assert_eq!(list(&symbols, &front), WHOLE_LIST);
     let second = Symbol {
         sample: 2,
@@ -74,11 +79,12 @@ fn blocks_of_every_size_up_to_the_whole() {
     for size in (1..=100).chain([1000, 1499, 1500, 5000]) {
         let mut front = Frontend::new(params.clone()).unwrap();
         let mut symbols = Vec::new();
-        let mut count = 0;
-        for block in pairs.chunks(size) {
-            count += front.process(block, &mut symbols).unwrap();
+        for pairs in pairs.chunks(size) {
+            let before = symbols.len();
+            let block = front.process(pairs, &mut symbols).unwrap();
+            let made = symbols.len() - before;
+            assert_eq!((block.symbols, block.taken), (made, pairs.len()));
         }
-        assert_eq!(count, symbols.len());
         assert_eq!(list(&symbols, &front), SYMBOLS, "blocks of {size}");
     }
 }
@@ -91,7 +97,7 @@ fn blocks_and_single_samples_in_turn() {
     for block in pairs.chunks(37) {
         let (first, rest) = block.split_first().unwrap();
         symbols.extend(front.push(*first).unwrap());
-        assert_eq!(front.process(&[], &mut symbols), Ok(0));
+        assert_eq!(front.process(&[], &mut symbols), Ok(Block::default()));
         front.process(rest, &mut symbols).unwrap();
     }
     assert_eq!(list(&symbols, &front), SYMBOLS);

@@ -194,7 +194,7 @@ fn a_block_that_is_offered_nothing() {
     let (state, _) = under_way(&p, &values);
     for places in [0, 1, 19, 20, 41] {
         let mut nothing = After::refused(NONE, &state, places, BLOCK);
-        nothing.answer = vec![0, 0, MARK, MARK];
+        nothing.answer = vec![0, 0, 0, MARK];
         assert_eq!(block(&p, &state, &[], places, BLOCK), nothing);
     }
 }
@@ -210,7 +210,7 @@ fn the_answer_has_four_places_or_more() {
             assert_eq!(block(&p, &state, values, places, room), refused);
         }
         let right = block(&p, &state, values, places, BLOCK);
-        assert_eq!((right.number, &right.answer[2..]), (NONE, &[MARK; 2][..]));
+        assert_eq!((right.number, &right.answer[3..]), (NONE, &[MARK][..]));
         for room in BLOCK..BLOCK + 5 {
             let mut more = right.clone();
             more.answer.resize(room, MARK);

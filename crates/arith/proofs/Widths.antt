@@ -1,18 +1,18 @@
--- Numbers of 16 and 32 bits in 64-bit arithmetic: casts, products, sums of products, and what a clamp or a saturation leaves.
+-- Numbers of 16 and 32 bits in 64-bit arithmetic: casts, products, sums of products, and what a clamp leaves.
 -- A signed local shows as `toZ w (ofZ w z)`, its bits read back (arith, Bits): these laws take such towers off.
-use Prim.Native.Nat.{ℕ, _^_, _≤_, _<_}
-use mathlib.Core.Path.{_≡_, ap, _∙_}
+use Prim.Native.Nat.{ℕ, _^_, _≤_}
+use mathlib.Core.Path.{_≡_}
 use mathlib.Core.Bool.{not, cond}
 use native.Mathlib.Omega.{arith}
 use lib.Dec.{T, leb}
 use lib.IntN.{ℤ, pos, negsuc, natAbs, _+ℤ_, _*ℤ_}
-use lib.Signed.{mag, nonNeg, ltZ}
+use lib.Signed.{nonNeg, ltZ}
 use mir.Syntax.{Width, w16, w32, w64}
 use mir.Val.{Fits, SFits, hbits, toZ, ofZ}
 use mir.Facts.{toZ-ofZ, sfits-widen}
-use Rattle.arith.specs.Arith.{roundShift, clampZ, sat16Z}
+use Rattle.arith.specs.Arith.{clampZ}
 use Rattle.arith.proofs.Magnitude.{by-cond, abs-add, abs-mul-le, clamp-abs}
-use Rattle.arith.proofs.Bits.{sfit, fit-abs, back, held, widened}
+use Rattle.arith.proofs.Bits.{sfit, fit-abs, back, widened}
 
 -- what 64 bits hold of a number, and of one of 16 bits that is cast to 64
 abbrev pub in64 : ℤ → ℤ
@@ -65,9 +65,3 @@ sum-fits {a} {b} {c} {d} f g h k = rw (product-is f g, product-is h k) (sfit {z 
 pub sum-is : {a b c d : ℤ} → SFits w16 a → SFits w16 b → SFits w16 c → SFits w16 d
     → in64 (in64 (wide a *ℤ wide b) +ℤ in64 (wide c *ℤ wide d)) ≡ a *ℤ b +ℤ c *ℤ d
 sum-is {a} {b} {c} {d} f g h k = rw (product-is f g, product-is h k) (back w64 (a *ℤ b +ℤ c *ℤ d) (omega (arith, sum-abs f g h k)))
-
--- ---- a number rounded and saturated, by what the two calls tell
-
-pub saturated : (s : ℕ) {z′ z r t : ℤ} → z′ ≡ z → r ≡ roundShift z′ s → mag r < 2 ^ 63 → t ≡ sat16Z (in64 r) → mag t < 2 ^ 15
-    → toZ w16 (ofZ w16 t) ≡ sat16Z (roundShift z s)
-saturated s {r} {t} e rounded f told g = held w16 t g ∙ told ∙ ap sat16Z (held w64 r f ∙ rounded ∙ ap (λ (y : ℤ). roundShift y s) e)

@@ -1,10 +1,11 @@
 -- The path's arithmetic over ℤ, where nothing overflows. The functions of src/ are proved equal to these on every input.
 -- `shrZ z m` of the kit divides z by m and rounds down, also below zero: with m = 2 ^ s it is the shift right by s.
 use Prim.Native.Nat.{ℕ, zero, suc, _+_, _-_, _*_, _/_, _%_, _^_}
-use mathlib.Core.Bool.{Bool, cond, _&&_}
+use mathlib.Core.Bool.{Bool, cond, _&&_, _||_}
 use lib.Dec.{eqb, ltb}
 use lib.IntN.{ℤ, pos, negsuc, negℤ, _+ℤ_, _-ℤ_}
 use lib.Signed.{ltZ, leZ, shrZ}
+use Rattle.arith.specs.declared.Saturated.{Saturated}
 
 -- R(v, s): v divided by 2^s and rounded to the nearest whole number, a half upward; nothing is done at s = 0.
 -- (RULES 2.2)
@@ -20,6 +21,15 @@ clampZ v lo hi = cond (ltZ v lo) lo (cond (ltZ hi v) hi v)
 -- (RULES 2.4)
 unfoldable pub sat16Z : ℤ → ℤ
 sat16Z v = clampZ v (negsuc 32767) (pos 32767)
+
+-- That changes v: what it is held to lies above v or below it.
+-- (RULES 2.4)
+unfoldable pub sat16Changes : ℤ → Bool
+sat16Changes v = ltZ v (sat16Z v) || ltZ (sat16Z v) v
+
+-- Both of it.
+abbrev pub saturatedTo : ℤ → Saturated
+saturatedTo v = record { value = sat16Z v; changed = sat16Changes v }
 
 -- What is left of v after whole multiples of m, from 0 to m - 1 also where v is below zero.
 -- (RULES 2.5)

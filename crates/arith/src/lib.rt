@@ -5,7 +5,7 @@ ghost use mathlib.Core.Path.{_≡_};
 ghost use Prim.Native.Nat.{_^_, min};
 ghost use lib.IntN.{_*ℤ_};
 ghost use lib.Signed.{shrZ};
-ghost use Rattle.arith.specs.Arith.{roundShift, clampZ, sat16Z, modZ, wrapI32, nearestAway, orZero, narrowI16, narrowI32};
+ghost use Rattle.arith.specs.Arith.{roundShift, clampZ, saturatedTo, modZ, wrapI32, nearestAway, orZero, narrowI16, narrowI32};
 
 // round(v / 2^s), a half upward; v for s = 0. The last bit that is shifted out decides, so it is
 // enough to look at v a place before: that number less its half, which cannot overflow.
@@ -78,11 +78,21 @@ pub fn least(a: usize, b: usize) -> usize
     b
 }
 
-// Saturate to 16 bits.
-pub fn sat16(v: i64) -> i16
-    ensures { λ r. ⌜ r ≡ sat16Z v ⌝ }
+// A number within 16 bits, and whether it is another than the one that was to be held.
+pub struct Saturated {
+    pub value: i16,
+    pub changed: bool,
+}
+
+// Saturate to 16 bits, and say whether that has changed the number.
+pub fn sat16(v: i64) -> Saturated
+    ensures { λ r. ⌜ r ≡ saturatedTo v ⌝ }
 {
-    clamp(v, -32768, 32767) as i16
+    let held = clamp(v, -32768, 32767);
+    Saturated {
+        value: held as i16,
+        changed: held != v,
+    }
 }
 
 // v modulo 2^32, as 32 bits unsigned.

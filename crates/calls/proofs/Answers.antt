@@ -1,6 +1,6 @@
 -- How answers cross: the first number that is not 0, and what starting and a block leave that fits places again. A count of samples is at most 2^63 - 1 where
 -- nothing is refused, and the others are below it.
-use Prim.Native.Nat.{ℕ, _≤_, _<_}
+use Prim.Native.Nat.{ℕ, _*_, _≤_, _<_}
 use mathlib.Core.Path.{_≡_, refl, sym, ap, subst, _∙_}
 use mathlib.Core.Bool.{Bool, true, false, cond}
 use mathlib.Core.List.{List, [], _∷_}
@@ -159,10 +159,11 @@ few s f [] = omega arith
 few s f (x ∷ xs) = omega (arith, length-append (madeBy s f x) (emitted s (next s f x) xs), made-few s f x, few s (next s f x) xs)
 
 -- what a block without a refusal leaves
-pub record Left (b : Block) : Type 0 where
+pub record Left (b : Block) (places : ℕ) : Type 0 where
   pub placed : hasPlaces (b .state) ≡ true
   pub taken : b .taken ≤ 9223372036854775807
   pub counted : b .count ≤ 9223372036854775807
+  pub roomy : 20 * b .count ≤ places
 
 module _ (s : Sheet) (f : Frontend) (values out : List ℤ) where
   -- a number other than 0: nothing was written
@@ -170,7 +171,7 @@ module _ (s : Sheet) (f : Frontend) (values out : List ℤ) where
   unfolding blockOf
   untouched h = rw (ne-eqb _ 0 (λ z. h (number-first s f values out ∙ z))) refl
 
-  pub left : blockOf s f values out .refused .number ≡ 0 → Left (blockOf s f values out)
+  pub left : blockOf s f values out .refused .number ≡ 0 → Left (blockOf s f values out) (length out)
   unfolding accepted pairsTaken
   left none =
       let g : Faultless s f (length values) (length out) = faultless s f (length values) (length out) (no-faults s f values out none) in
@@ -190,4 +191,5 @@ module _ (s : Sheet) (f : Frontend) (values out : List ℤ) where
         });
         taken = omega (arith, g .sizes .few);
         counted = omega (arith, few s f xs, long, g .sizes .few);
+        roomy = omega (arith, few s f xs, long);
       })

@@ -47,8 +47,8 @@ pub record BlockAnswer : Type 0 where
   pub output : List ℤ
   pub answer : List ℤ
 
--- A block: 18 and 19, 1 to 8, 29, 9, 10 to 12, then 11 where there are fewer than four places for the answer. How many symbols it wrote and how many pairs it
--- took stand in the first two; the others stay as they were.
+-- A block: 18 and 19, 1 to 8, 29, 9, 10 to 12, then 11 where there are fewer than four places for the answer. How many symbols it wrote, how many pairs it took
+-- and how many clips it counted stand in the first three; the others stay as they were.
 unfoldable pub blockAnswer : List ℤ → List ℤ → List ℤ → List ℤ → List ℤ → List ℤ → List ℤ → List ℤ → BlockAnswer
 blockAnswer l h g k state values out answer =
     let s : Sheet = sheetAt l h g k in
@@ -56,7 +56,12 @@ blockAnswer l h g k state values out answer =
     let room : ℕ = cond (leb 4 (length answer)) 0 11 in
     let n : ℕ = firstNumber (sheetNumber l) (firstNumber (stateNumber s state) (firstNumber (b .refused .number) room)) in
     cond (eqb n 0)
-    (record { number = 0; state = numbersOf (b .state); output = b .output; answer = pos (b .count) ∷ pos (b .taken) ∷ drop 2 answer })
+    (record {
+      number = 0;
+      state = numbersOf (b .state);
+      output = b .output;
+      answer = pos (b .count) ∷ pos (b .taken) ∷ pos (b .clips) ∷ drop 3 answer;
+    })
     (record { number = n; state = state; output = out; answer = answer })
 
 -- Reading: 18 and 19, 1 to 8, 29, 9, then 11 where there are fewer than three places for period, gain and symbols.

@@ -43,7 +43,7 @@ pub fn start(sheet: &[i64], h: &[i32], g: &[i32], k: &[i32], state: &mut [i64]) 
 }
 
 // Takes a block of samples, I before Q, from the state on, as many of them as the output has places for; writes 20 places a symbol, the state after it, and
-// how many symbols it wrote and pairs it took to the first two of four places (RULES 4).
+// how many symbols it wrote, pairs it took and clips it counted to the first three of four places (RULES 4).
 pub fn block(
     sheet: &[i64],
     h: &[i32],
@@ -83,6 +83,7 @@ pub fn block(
             places::write_state(after, &mut *state);
             answer[0] = done.count as i64;
             answer[1] = done.taken as i64;
+            answer[2] = done.clips as i64;
             0
         }
     }

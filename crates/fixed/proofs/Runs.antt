@@ -1,5 +1,5 @@
--- Runs of samples: what a run does is what its parts do one after the other, and the places of its symbols stand 20 by 20.
--- Both follow by going through the list from its head.
+-- Runs of samples: what a run does is what its parts do one after the other, the places of its symbols stand 20 by 20, and their clips add up.
+-- All of it follows by going through the list from its head.
 use Prim.Native.Nat.{ℕ, zero, suc, _+_, _*_, _<_}
 use mathlib.Core.Path.{_≡_, refl, sym, ap, _∙_}
 use mathlib.Core.Bool.{Bool, true, false}
@@ -14,7 +14,7 @@ use Rattle.state.specs.declared.Frontend.{Frontend}
 use Rattle.symbol.specs.declared.Symbol.{Symbol}
 use Rattle.symbol.specs.Places.{placesOf}
 use Rattle.fixed.specs.Sample.{joined, withSymbol, withoutSymbol, falls, next, madeBy, after, emitted}
-use Rattle.fixed.specs.Block.{flattened}
+use Rattle.fixed.specs.Block.{flattened, clipsOf}
 
 module _ (s : Sheet) where
   pub after-append : (f : Frontend) (xs ys : List Pair) → after s f (xs ++ ys) ≡ after s (after s f xs) ys
@@ -42,6 +42,13 @@ module _ (s : Sheet) where
   unfolding after
   run-samples f [] = omega arith
   run-samples f (x ∷ xs) = omega (arith, run-samples (next s f x) xs, next-samples f x)
+
+-- ---- the clips of symbols
+
+pub clips-append : (a b : List Symbol) → clipsOf (a ++ b) ≡ clipsOf a + clipsOf b
+unfolding clipsOf
+clips-append [] b = omega arith
+clips-append (y ∷ a) b = omega (arith, clips-append a b)
 
 -- ---- the places of symbols
 

@@ -16,9 +16,9 @@ use Rattle.state.specs.declared.Pair.{Pair}
 use Rattle.state.specs.declared.Frontend.{Frontend}
 use Rattle.state.specs.Start.{noPair}
 use Rattle.fixed.specs.Sample.{madeBy, after, emitted}
-use Rattle.fixed.specs.Block.{pairsOf, flattened}
+use Rattle.fixed.specs.Block.{pairsOf, flattened, clipsOf}
 use Rattle.fixed.specs.Inside.{Kept, Stands, Begun, Ready, Pushes, Runs}
-use Rattle.fixed.proofs.Runs.{after-append, emitted-append, flattened-append, length-flattened}
+use Rattle.fixed.proofs.Runs.{after-append, emitted-append, flattened-append, length-flattened, clips-append}
 
 -- ---- the values as pairs
 
@@ -63,6 +63,19 @@ pairs-rest (i ∷ q ∷ values) (suc n) = let a : 2 * suc n ≡ suc (suc (2 * n)
 pub record Output (ys : List Symbol) (out₀ out : List ℤ) (count : ℕ) : Type 0 where
   pub counted : count ≡ length ys
   pub places : out ≡ flattened ys ++ drop (20 * count) out₀
+
+-- The clips that a turn adds.
+abbrev pub clipsAdded : Bool → Symbol → ℕ
+clipsAdded made y = cond made (y .clips) 0
+
+pub added-few : (made : Bool) (y : Symbol) → (made ≡ true → y .clips ≤ 12) → clipsAdded made y ≤ 12
+added-few true y few = few refl
+added-few false y few = omega arith
+
+clips-next : (ys : List Symbol) (made : Bool) (y : Symbol) → clipsOf (ys ++ cond made (y ∷ []) []) ≡ clipsOf ys + clipsAdded made y
+unfolding clipsOf
+clips-next ys true y = omega (arith, clips-append ys (y ∷ []))
+clips-next ys false y = omega (arith, clips-append ys [])
 
 -- What a turn leaves of it, and how many symbols are then counted.
 abbrev pub emittedTo : Bool → Symbol → ℕ → List ℤ → Outcome
@@ -119,24 +132,28 @@ module _ (s : Sheet) (values : List ℤ) (out₀ : List ℤ) (x₀ : Kept) where
   abbrev some : ℕ → List Pair
   some n = take n (pairsOf values)
 
-  pub record Turned (out : List ℤ) (x : Kept) (count n : ℕ) : Type 0 where
+  pub record Turned (out : List ℤ) (x : Kept) (count clips n : ℕ) : Type 0 where
     pub begun : Begun s x
     pub at : x .position .samples ≡ x₀ .position .samples + n
     pub most : n ≤ length values / 2
     pub few : count ≤ n
+    pub few-clips : clips ≤ 12 * n
     pub long : length out ≡ length out₀
     pub output : (f : Frontend) → First f → Output (emitted s f (some n)) out₀ out count
+    pub clipped : (f : Frontend) → First f → clips ≡ clipsOf (emitted s f (some n))
     pub stands : (f : Frontend) → First f → Stands (s .params .taps) x (after s f (some n))
 
-  pub turned-none : Begun s x₀ → Turned out₀ x₀ 0 0
-  unfolding after emitted flattened
+  pub turned-none : Begun s x₀ → Turned out₀ x₀ 0 0 0
+  unfolding after emitted flattened clipsOf
   turned-none begun = record {
     begun = begun;
     at = omega arith;
     most = omega arith;
     few = omega arith;
+    few-clips = omega arith;
     long = refl;
     output = λ f first. record { counted = refl; places = refl };
+    clipped = λ f first. refl;
     stands = λ f first. first;
   }
 
@@ -155,12 +172,12 @@ module _ (s : Sheet) (values : List ℤ) (out₀ : List ℤ) (x₀ : Kept) where
     pub long-err : length (y .err) ≡ length (x .err)
 
   module _ (room : 20 * (length values / 2) ≤ length out₀) (countable : x₀ .position .samples + length values / 2 ≤ 9223372036854775807) where
-    pub turned-next : {out : List ℤ} {x y : Kept} {count n : ℕ} {a : Pair} {made : Bool} {symbol : Symbol} {count′ : ℕ} {out′ : List ℤ}
-        → Turned out x count n → n < length values / 2 → getD (pairsOf values) n noPair ≡ a → Turn x y a made symbol
+    pub turned-next : {out : List ℤ} {x y : Kept} {count clips n : ℕ} {a : Pair} {made : Bool} {symbol : Symbol} {count′ added : ℕ} {out′ : List ℤ}
+        → Turned out x count clips n → n < length values / 2 → getD (pairsOf values) n noPair ≡ a → Turn x y a made symbol
         → _≡_ {A = Outcome} (record { count = count′; output = out′ }) (emittedTo made symbol count out) → length out′ ≡ length out
-        → Turned out′ y count′ (n + 1)
+        → added ≡ clipsAdded made symbol → Turned out′ y count′ (clips + added) (n + 1)
     unfolding after emitted
-    turned-next {out} {x} {y} {count} {n} {a} {made} {symbol} {count′} {out′} t below at turn is same =
+    turned-next {out} {x} {y} {count} {clips} {n} {a} {made} {symbol} {count′} {added} {out′} t below at turn is same adds =
         record {
           begun = record {
             accepted = t .begun .accepted;
@@ -173,15 +190,14 @@ module _ (s : Sheet) (values : List ℤ) (out₀ : List ℤ) (x₀ : Kept) where
           at = omega (arith, turn .pushes .on .samples, t .at);
           most = omega arith;
           few = subst (λ (put : Outcome). put .count ≤ n + 1) (sym is) (omega (arith, emitted-few made symbol count out, t .few));
+          few-clips = omega (arith, t .few-clips, adds, added-few made symbol (turn .pushes .few));
           long = same ∙ t .long;
           output = λ f first.
-              let all : emitted s f (some n) ++ cond made (symbol ∷ []) [] ≡ emitted s f (some (n + 1)) =
-              sym (ap (emitted s f) (some-next n a below at) ∙ emitted-append s f (some n) (a ∷ [])
-              ∙ ap (λ (l : List Symbol). emitted s f (some n) ++ l)
-              (append-nil (madeBy s (after s f (some n)) a) ∙ turn .pushes .makes (after s f (some n)) (t .stands f first))) in
-              subst (λ (ys : List Symbol). Output ys out₀ out′ count′) all
+              subst (λ (ys : List Symbol). Output ys out₀ out′ count′) (all f first)
               (subst (λ (put : Outcome). Output (emitted s f (some n) ++ cond made (symbol ∷ []) []) out₀ (put .output) (put .count)) (sym is)
               (output-next made symbol free fits (t .output f first)));
+          clipped = λ f first.
+              (λ i. t .clipped f first i + adds i) ∙ sym (clips-next (emitted s f (some n)) made symbol) ∙ ap clipsOf (all f first);
           stands = λ f first.
               subst (Stands (s .params .taps) y) (sym (ap (after s f) (some-next n a below at) ∙ after-append s f (some n) (a ∷ [])))
               (turn .pushes .state (after s f (some n)) (t .stands f first));
@@ -190,21 +206,29 @@ module _ (s : Sheet) (values : List ℤ) (out₀ : List ℤ) (x₀ : Kept) where
         free : count < length out / 20
         free = omega (arith, t .few, t .long)
 
+        all : (f : Frontend) → First f → emitted s f (some n) ++ cond made (symbol ∷ []) [] ≡ emitted s f (some (n + 1))
+        all f first =
+            sym (ap (emitted s f) (some-next n a below at) ∙ emitted-append s f (some n) (a ∷ [])
+            ∙ ap (λ (l : List Symbol). emitted s f (some n) ++ l)
+            (append-nil (madeBy s (after s f (some n)) a) ∙ turn .pushes .makes (after s f (some n)) (t .stands f first)))
+
         fits : made ≡ true → symbol .sample ≤ 9223372036854775807
         fits m = rw (turn .pushes .sample m) (omega (arith, t .at))
 
     -- at a turn that there is a pair for, a sample can be pushed
-    pub turned-ready : {out : List ℤ} {x : Kept} {count n : ℕ} → Turned out x count n → n < length values / 2 → Ready s x
+    pub turned-ready : {out : List ℤ} {x : Kept} {count clips n : ℕ} → Turned out x count clips n → n < length values / 2 → Ready s x
     turned-ready t below = record { begun = t .begun; room = omega (arith, t .at) }
 
   -- after the last turn, all samples are taken, and what holds is what a block promises
-  pub turned-all : {out : List ℤ} {x : Kept} {count n : ℕ} → Turned out x count n → length values / 2 ≤ n → Runs s x₀ x values out₀ out count
-  turned-all {out} {x} {count} {n} t h =
+  pub turned-all : {out : List ℤ} {x : Kept} {count clips n : ℕ} → Turned out x count clips n → length values / 2 ≤ n
+      → Runs s x₀ x values out₀ out count clips
+  turned-all {out} {x} {count} {clips} {n} t h =
       let all : some n ≡ pairsOf values = take-all n (pairsOf values) (omega (arith, pairs-long values)) in
       let output : (f : Frontend) → First f → Output (emitted s f (pairsOf values)) out₀ out count =
       λ f first. subst (λ (xs : List Pair). Output (emitted s f xs) out₀ out count) all (t .output f first) in
       record {
         counted = λ f first. output f first .counted;
+        clipped = λ f first. t .clipped f first ∙ ap (λ (xs : List Pair). clipsOf (emitted s f xs)) all;
         written = λ f first. output f first .places;
         state = λ f first. subst (λ (xs : List Pair). Stands (s .params .taps) x (after s f xs)) all (t .stands f first);
       }

@@ -21,7 +21,7 @@ use Rattle.state.specs.Start.{ringPlaces, noPair, noPending}
 use Rattle.fixed.specs.Filter.{sumTo}
 use Rattle.fixed.specs.Sample.{symbolOf, withSymbol, next, madeBy, after, emitted}
 use Rattle.state.specs.Check.{goodState, outline}
-use Rattle.fixed.specs.Block.{pairsOf, flattened}
+use Rattle.fixed.specs.Block.{pairsOf, flattened, clipsOf}
 
 -- ---- the line
 
@@ -140,6 +140,7 @@ pub record GoesOn (s : Sheet) (x y : Kept) : Type 0 where
 pub record MakesSymbol (s : Sheet) (x y : Kept) (symbol : Symbol) : Type 0 where
   pub on : GoesOn s x y
   pub sample : symbol .sample ≡ x .position .samples
+  pub few : symbol .clips ≤ 12
   pub is : (f : Frontend) → Stands (s .params .taps) x f → symbol ≡ symbolOf s f
   pub state : (f : Frontend) → Stands (s .params .taps) x f → Stands (s .params .taps) y (withSymbol s f)
 
@@ -147,11 +148,13 @@ pub record MakesSymbol (s : Sheet) (x y : Kept) (symbol : Symbol) : Type 0 where
 pub record Pushes (s : Sheet) (x y : Kept) (pair : Pair) (made : Bool) (symbol : Symbol) : Type 0 where
   pub on : GoesOn s x y
   pub sample : made ≡ true → symbol .sample ≡ x .position .samples
+  pub few : made ≡ true → symbol .clips ≤ 12
   pub makes : (f : Frontend) → Stands (s .params .taps) x f → madeBy s f pair ≡ cond made (symbol ∷ []) []
   pub state : (f : Frontend) → Stands (s .params .taps) x f → Stands (s .params .taps) y (next s f pair)
 
--- All samples of a block: how many symbols they made, what the output then holds, and the state after them.
-pub record Runs (s : Sheet) (x y : Kept) (values out₀ out : List ℤ) (count : ℕ) : Type 0 where
+-- All samples of a block: how many symbols they made, the clips of these, what the output then holds, and the state after them.
+pub record Runs (s : Sheet) (x y : Kept) (values out₀ out : List ℤ) (count clips : ℕ) : Type 0 where
   pub counted : (f : Frontend) → Stands (s .params .taps) x f → count ≡ length (emitted s f (pairsOf values))
+  pub clipped : (f : Frontend) → Stands (s .params .taps) x f → clips ≡ clipsOf (emitted s f (pairsOf values))
   pub written : (f : Frontend) → Stands (s .params .taps) x f → out ≡ flattened (emitted s f (pairsOf values)) ++ drop (20 * count) out₀
   pub state : (f : Frontend) → Stands (s .params .taps) x f → Stands (s .params .taps) y (after s f (pairsOf values))

@@ -99,11 +99,22 @@ fn emit(out: &mut [i64], count: usize, made: bool, y: Symbol) -> usize
     y.put(count, &mut *out)
 }
 
-// What a block leaves: registers and positions after its last sample, and how many symbols it wrote.
+// The clips of a symbol, if one was made.
+fn clips_of(made: bool, y: Symbol) -> usize
+    ensures { λ r. ⌜ r ≡ cond made (y .clips) 0 ⌝ }
+{
+    if !made {
+        return 0;
+    }
+    y.clips as usize
+}
+
+// What a block leaves: registers and positions after its last sample, how many symbols it wrote, and their clips.
 pub(crate) struct Ran {
     pub(crate) registers: Registers,
     pub(crate) position: Position,
     pub(crate) count: usize,
+    pub(crate) clips: usize,
 }
 
 pub(crate) fn run(
@@ -126,12 +137,13 @@ pub(crate) fn run(
         Runs (sheetOf p (now (h .entry)) (now (g .entry)) (now (k .entry)))
         (kept (now (i .entry)) (now (q .entry)) (now (e .entry)) (now (err .entry)) r w)
         (kept (now (i .exit)) (now (q .exit)) (now (e .exit)) (now (err .exit)) (s .registers) (s .position))
-        (now (values .entry)) (now (out .entry)) (now (out .exit)) (s .count) ⌝ }
+        (now (values .entry)) (now (out .entry)) (now (out .exit)) (s .count) (s .clips) ⌝ }
 {
     let cos = tables::cos_table();
     let mut registers = r;
     let mut position = w;
     let mut count: usize = 0;
+    let mut clips: usize = 0;
     let mut n: usize = 0;
     while n < values.len() / 2 {
         let s = sample::push(
@@ -151,6 +163,7 @@ pub(crate) fn run(
         );
         let symbol = s.symbol;
         count = emit(&mut *out, count, s.made, symbol);
+        clips += clips_of(s.made, symbol);
         registers = s.registers;
         position = s.position;
         n += 1;
@@ -159,5 +172,6 @@ pub(crate) fn run(
         registers,
         position,
         count,
+        clips,
     }
 }

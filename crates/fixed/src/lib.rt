@@ -16,8 +16,8 @@
 //     b. Filters (filter.rt), over the line newest first, row `phase` of h, g and k:
 //          three sums each for I and Q                                        64 bits
 //     c. Symbol (crates/symbol):
-//          y, dy, yk = R(sum, 14)                                             16 bits, clipped
-//          z, dz, zk = R(y gain, 10) and so on, gain = acc >> 8               16 bits, clipped
+//          y, dy, yk = R(sum, 14)                                             16 bits, clipped; how often, is counted
+//          z, dz, zk = R(y gain, 10) and so on, gain = acc >> 8               likewise
 //          q = R(zk, q_shift)                                                 `bits` bits, clipped
 //          e = (z_i dz_i + z_q dz_q) >> ted_shift                             24 bits, clipped
 //          err = agc_target - ((zk_i^2 + zk_q^2) >> 12)                       32 bits, wrapped
@@ -43,12 +43,13 @@ ghost use Rattle.params.specs.Judge.{sheetOf};
 ghost use Rattle.state.specs.Check.{blockFaults};
 ghost use Rattle.fixed.specs.Block.{accepted, blockOf, processed};
 
-// What a block answers: the new state, how many pairs it took and how many symbols it wrote, or the state given and twice 0.
+// What a block answers: the new state, how many pairs it took, how many symbols it wrote and their clips in all, or the state given and zeros.
 pub struct Processed {
     pub verdict: FrontendVerdict,
     pub state: Frontend,
     pub taken: usize,
     pub count: usize,
+    pub clips: usize,
 }
 
 // A block of samples, I before Q; the places of its symbols go to `out`, 20 each (RULES 4). With a short `out` it takes fewer pairs than it is given: its
@@ -74,6 +75,7 @@ pub fn process(
             state: f,
             taken: 0,
             count: 0,
+            clips: 0,
         },
     }
 }
@@ -134,5 +136,6 @@ fn run(
         state,
         taken,
         count: s.count,
+        clips: s.clips,
     }
 }

@@ -124,6 +124,7 @@ fn no_symbol() -> Symbol {
         q: none,
         e: 0,
         err: 0,
+        clips: 0,
     }
 }
 

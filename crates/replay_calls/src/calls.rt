@@ -71,9 +71,10 @@ fn is_block(row: &[i64], block: Processed, out: &[i64]) -> bool {
         rows::i64_of(out.len() as u64),
         rows::i64_of(block.count as u64),
         rows::i64_of(block.taken as u64),
+        rows::i64_of(block.clips as u64),
     ];
     answer::begins(rows::rest(row, 1), &told)
-        && refusal.is(rows::rest(row, 4))
+        && refusal.is(rows::rest(row, 5))
         && is_kept_behind(out, block.count)
 }
 

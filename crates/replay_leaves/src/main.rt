@@ -26,7 +26,7 @@ fn answer(wheel: &[i16; 1024], function: i64, a: i64, b: i64, c: i64) -> i64 {
         return arith::clamp(a, b, c);
     }
     if function == 4 {
-        return arith::sat16(a) as i64;
+        return arith::sat16(a).value as i64;
     }
     if function == 5 {
         return arith::wrap_u32(a) as i64;

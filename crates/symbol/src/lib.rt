@@ -35,4 +35,6 @@ pub struct Symbol {
     // The errors of timing and gain that it leaves.
     pub e: i32,
     pub err: i32,
+    // How many of y, dy, yk, z, dz and zk, component by component, were clipped to fit 16 bits: 0 to 12. It has no place in an output.
+    pub clips: u8,
 }

@@ -1,39 +1,48 @@
-// What a symbol is made of, from the filters' sums to its errors (RULES 3.8, 3.9).
+// What a symbol is made of, from the filters' sums to its errors and its clips (RULES 3.8, 3.9).
 use crate::Output;
 use crate::Sums;
 use crate::Symbol;
 use params::Params;
 ghost use mathlib.Core.Path.{_≡_};
 ghost use Prim.Native.Nat.{_-_, min};
-ghost use lib.IntN.{pos, _*ℤ_};
-ghost use Rattle.arith.specs.Arith.{roundShift, sat16Z};
-ghost use Rattle.symbol.specs.Make.{outputOf, amplified, quantised, timingError, gainError, symbolFrom};
+ghost use Rattle.symbol.specs.Make.{fitted, outputOf, amplified, quantised, timingError, gainError, symbolFrom};
 
-// A filter's sums as an output.
-fn output_of(s: Sums) -> Output
-    ensures { λ r. ⌜ r ≡ outputOf s ⌝ }
+// An output, and how many of its two components were clipped.
+struct Fitted {
+    output: Output,
+    clips: u8,
+}
+
+// Both components within 16 bits.
+fn fit(i: i64, q: i64) -> Fitted
+    ensures { λ r. ⌜ r ≡ fitted i q ⌝ }
 {
-    Output {
-        i: arith::sat16(arith::round_shift(s.i, 14)),
-        q: arith::sat16(arith::round_shift(s.q, 14)),
+    let a = arith::sat16(i);
+    let b = arith::sat16(q);
+    Fitted {
+        output: Output {
+            i: a.value,
+            q: b.value,
+        },
+        clips: a.changed as u8 + b.changed as u8,
     }
 }
 
-// A component times the gain.
-fn times(gain: u16, x: i16) -> i16
-    ensures { λ r. ⌜ r ≡ sat16Z (roundShift (x *ℤ pos gain) 10) ⌝ }
+// A filter's sums as an output.
+fn output_of(s: Sums) -> Fitted
+    ensures { λ r. ⌜ r ≡ outputOf s ⌝ }
 {
-    arith::sat16(arith::round_product(x, gain as i32, 10))
+    fit(arith::round_shift(s.i, 14), arith::round_shift(s.q, 14))
 }
 
 // An output times the gain.
-fn amplify(gain: u16, x: Output) -> Output
+fn amplify(gain: u16, x: Output) -> Fitted
     ensures { λ r. ⌜ r ≡ amplified gain x ⌝ }
 {
-    Output {
-        i: times(gain, x.i),
-        q: times(gain, x.q),
-    }
+    fit(
+        arith::round_product(x.i, gain as i32, 10),
+        arith::round_product(x.q, gain as i32, 10),
+    )
 }
 
 // The bits of an output component below its sign. An amplified output has 16 bits, so more than these make no difference.
@@ -91,12 +100,18 @@ impl Symbol {
     ) -> Symbol
         ensures { λ y. ⌜ y ≡ symbolFrom p gain period sample phase sums ⌝ }
     {
-        let y = output_of(sums[0]);
-        let dy = output_of(sums[1]);
-        let yk = output_of(sums[2]);
-        let z = amplify(gain, y);
-        let dz = amplify(gain, dy);
-        let zk = amplify(gain, yk);
+        let y_fit = output_of(sums[0]);
+        let dy_fit = output_of(sums[1]);
+        let yk_fit = output_of(sums[2]);
+        let y = y_fit.output;
+        let dy = dy_fit.output;
+        let yk = yk_fit.output;
+        let z_fit = amplify(gain, y);
+        let dz_fit = amplify(gain, dy);
+        let zk_fit = amplify(gain, yk);
+        let z = z_fit.output;
+        let dz = dz_fit.output;
+        let zk = zk_fit.output;
         let q = Output {
             i: quantise(p, zk.i),
             q: quantise(p, zk.q),
@@ -115,6 +130,12 @@ impl Symbol {
             q,
             e: timing_error(p, z, dz),
             err: agc_error(p, zk),
+            clips: y_fit.clips
+                + dy_fit.clips
+                + yk_fit.clips
+                + z_fit.clips
+                + dz_fit.clips
+                + zk_fit.clips,
         }
     }
 }

@@ -1,5 +1,5 @@
 -- A list of block calls is one run over the samples that its calls took: a call is a run over its first pairs, as many as it took, and a refused one took none.
--- So its end state, its symbols and their count are that run's, whatever the blocks and refusals were.
+-- So its end state, its symbols, their count and their clips are that run's, whatever the blocks and refusals were.
 use Prim.Native.Nat.{ℕ, _*_}
 use mathlib.Core.Path.{_≡_, refl, sym, ap, _∙_}
 use mathlib.Core.Bool.{Bool, true, false, cond}
@@ -14,9 +14,9 @@ use Rattle.state.specs.declared.Frontend.{Frontend}
 use Rattle.symbol.specs.declared.Symbol.{Symbol}
 use Rattle.fixed.specs.Sample.{after, emitted}
 use Rattle.state.specs.Check.{pairsTaken, blockFaults}
-use Rattle.fixed.specs.Block.{pairsOf, flattened, accepted, blockOf}
-use Rattle.timing.specs.Lists.{Call, answer, stateAfter, takenBy, taken, written, counted}
-use Rattle.fixed.proofs.Runs.{after-append, emitted-append, flattened-append, length-flattened}
+use Rattle.fixed.specs.Block.{pairsOf, flattened, clipsOf, accepted, blockOf}
+use Rattle.timing.specs.Lists.{Call, answer, stateAfter, takenBy, taken, written, counted, clipped}
+use Rattle.fixed.proofs.Runs.{after-append, emitted-append, flattened-append, length-flattened, clips-append}
 
 module _ (s : Sheet) where
   abbrev pub number : Frontend → Call → ℕ
@@ -25,7 +25,7 @@ module _ (s : Sheet) where
   -- an answer, once its refusal's number is known to be 0 or not
   pub answer-is : (f : Frontend) (c : Call) (b : Bool) → eqb (number f c) 0 ≡ b
       → answer s f c ≡ cond b (accepted s f (c .values) (c .out))
-      (record { refused = firstOf (blockFaults s f (length (c .values)) (length (c .out))); state = f; taken = 0; count = 0; output = c .out })
+      (record { refused = firstOf (blockFaults s f (length (c .values)) (length (c .out))); state = f; taken = 0; count = 0; clips = 0; output = c .out })
   unfolding blockOf
   answer-is f c b e = rw e
 
@@ -44,6 +44,14 @@ module _ (s : Sheet) where
   one-count f c = go (eqb (number f c) 0) refl
     where
       go : (b : Bool) → eqb (number f c) 0 ≡ b → answer s f c .count ≡ length (emitted s f (takenBy s f c))
+      go true e = rw (answer-is f c true e)
+      go false e = rw (answer-is f c false e)
+
+  one-clips : (f : Frontend) (c : Call) → answer s f c .clips ≡ clipsOf (emitted s f (takenBy s f c))
+  unfolding accepted emitted clipsOf
+  one-clips f c = go (eqb (number f c) 0) refl
+    where
+      go : (b : Bool) → eqb (number f c) 0 ≡ b → answer s f c .clips ≡ clipsOf (emitted s f (takenBy s f c))
       go true e = rw (answer-is f c true e)
       go false e = rw (answer-is f c false e)
 
@@ -89,3 +97,10 @@ module _ (s : Sheet) where
   calls-counted f (c ∷ cs) =
       let g : Frontend = answer s f c .state in
       rw (one-count f c, calls-counted g cs, parts f c cs) (sym (length-append (emitted s f (takenBy s f c)) (emitted s g (taken s g cs))))
+
+  pub calls-clipped : (f : Frontend) (cs : List Call) → clipped s f cs ≡ clipsOf (emitted s f (taken s f cs))
+  unfolding clipped taken emitted clipsOf
+  calls-clipped f [] = refl
+  calls-clipped f (c ∷ cs) =
+      let g : Frontend = answer s f c .state in
+      rw (one-clips f c, calls-clipped g cs, parts f c cs) (sym (clips-append (emitted s f (takenBy s f c)) (emitted s g (taken s g cs))))

@@ -4,5 +4,6 @@ pub mod Errors
 pub mod Invariant
 pub mod Timing
 pub mod GoOn
+pub mod Clips
 pub mod Advance
 pub mod Offers

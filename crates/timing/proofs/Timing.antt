@@ -24,12 +24,12 @@ use Rattle.state.specs.Start.{noPair, atRest, fresh, startOf}
 use Rattle.fixed.specs.Filter.{sumTo}
 use Rattle.symbol.specs.Places.{placesOf}
 use Rattle.fixed.specs.Sample.{after, emitted}
-use Rattle.fixed.specs.Block.{flattened}
-use Rattle.timing.specs.Lists.{Call, startState, samplesOf, endState, placesWritten, symbolCount}
+use Rattle.fixed.specs.Block.{flattened, clipsOf}
+use Rattle.timing.specs.Lists.{Call, startState, samplesOf, endState, placesWritten, symbolCount, clipCount}
 use Rattle.timing.specs.Timing.{placeAt, sampleAt, phaseAt, gainAt, periodAt, periodsBefore, Whole, Place, Apart, Rest, AgreeUpTo, Delayed, SameRun}
 use Rattle.timing.specs.Timing.{TimingHolds}
 use Rattle.fixed.proofs.Runs.{emitted-append, length-flattened, place-flattened, run-samples}
-use Rattle.timing.proofs.Calls.{calls-state, calls-written, calls-counted}
+use Rattle.timing.proofs.Calls.{calls-state, calls-written, calls-counted, calls-clipped}
 use Rattle.registers.proofs.Loops.{Loop}
 use Rattle.timing.proofs.Errors.{total, total-append, total-suc, errors, errors-take, movedBy, freshLoop}
 use Rattle.state.proofs.Going.{time}
@@ -53,6 +53,7 @@ noSymbol = record {
   q = noOutput;
   e = pos 0;
   err = pos 0;
+  clips = 0;
 }
 
 -- an order of naturals, as one of ℤ
@@ -247,6 +248,10 @@ module _ (s : Sheet) (ok : startOf s .refused ≡ nothing) where
   unfolding runOf run
   counts cs = calls-counted s (startState s) cs ∙ ap (λ (f : Frontend). length (emitted s f (samplesOf s cs))) begins
 
+  clips : (cs : List Call) → clipCount s cs ≡ clipsOf (runOf cs)
+  unfolding runOf run
+  clips cs = calls-clipped s (startState s) cs ∙ ap (λ (f : Frontend). clipsOf (emitted s f (samplesOf s cs))) begins
+
   ends : (cs : List Call) → endState s cs ≡ after s (f₀ s a) (samplesOf s cs)
   ends cs = calls-state s (startState s) cs ∙ ap (λ (f : Frontend). after s f (samplesOf s cs)) begins
 
@@ -320,6 +325,7 @@ module _ (s : Sheet) (ok : startOf s .refused ≡ nothing) where
   unfolding runOf
   cuts cs ds e = record {
     count = counts cs ∙ ap (λ (xs : List Pair). length (run s a xs)) e ∙ sym (counts ds);
+    clips = clips cs ∙ ap (λ (xs : List Pair). clipsOf (run s a xs)) e ∙ sym (clips ds);
     places = wrote cs ∙ ap (λ (xs : List Pair). flattened (run s a xs)) e ∙ sym (wrote ds);
     state = ends cs ∙ ap (after s (f₀ s a)) e ∙ sym (ends ds);
   }

@@ -42,6 +42,11 @@ unfoldable pub counted : Sheet → Frontend → List Call → ℕ
 counted s f [] = 0
 counted s f (c ∷ cs) = answer s f c .count + counted s (answer s f c .state) cs
 
+-- How many clips they counted in all.
+unfoldable pub clipped : Sheet → Frontend → List Call → ℕ
+clipped s f [] = 0
+clipped s f (c ∷ cs) = answer s f c .clips + clipped s (answer s f c .state) cs
+
 -- A caller that offers what is left: it makes a call with each of its outputs, on the values behind those that the calls before took.
 unfoldable pub offers : Sheet → Frontend → List ℤ → List (List ℤ) → List Call
 offers s f values [] = []
@@ -65,3 +70,6 @@ placesWritten s cs = written s (startState s) cs
 
 abbrev pub symbolCount : Sheet → List Call → ℕ
 symbolCount s cs = counted s (startState s) cs
+
+abbrev pub clipCount : Sheet → List Call → ℕ
+clipCount s cs = clipped s (startState s) cs

@@ -15,7 +15,7 @@ use Rattle.state.specs.Start.{noPair, startOf}
 use Rattle.state.specs.declared.Frontend.{Frontend}
 use Rattle.fixed.specs.Filter.{sumTo}
 use Rattle.fixed.specs.Block.{pairsOf}
-use Rattle.timing.specs.Lists.{Call, answer, taken, offers, endState, samplesOf, placesWritten, symbolCount}
+use Rattle.timing.specs.Lists.{Call, answer, taken, offers, endState, samplesOf, placesWritten, symbolCount, clipCount}
 
 -- ---- of the places that were written
 
@@ -85,9 +85,10 @@ module _ (s : Sheet) (cs ds : List Call) where
     pub same : (k : ℕ) → k ≤ i → (j : ℕ) → j < 20 → placeAt (placesWritten s cs) k j ≡ placeAt (placesWritten s ds) k j
     pub ahead : (k : ℕ) → k ≤ i + s .params .delay → k < symbolCount s cs → k < symbolCount s ds → SameTiming (placesWritten s cs) (placesWritten s ds) k
 
-  -- 5. The same symbols, place for place, and the same end state, field for field.
+  -- 5. The same symbols, place for place, as many clips in all, and the same end state, field for field.
   pub record SameRun : Type 0 where
     pub count : symbolCount s cs ≡ symbolCount s ds
+    pub clips : clipCount s cs ≡ clipCount s ds
     pub places : placesWritten s cs ≡ placesWritten s ds
     pub state : endState s cs ≡ endState s ds
 
@@ -114,6 +115,12 @@ abbrev pub StatesGoOn : Type 0
 StatesGoOn =
     (s : Sheet) → startOf s .refused ≡ nothing → (cs : List Call) (c : Call)
     → let n : ℕ = answer s (endState s cs) c .refused .number in (n ≡ 0) ⊎ ((10 ≤ n) × (n ≤ 12))
+
+-- ---- how many clips there can be
+
+-- A call counts twelve at most for each symbol that it wrote, whatever the sheet and the state.
+abbrev pub ClipsFew : Type 0
+ClipsFew = (s : Sheet) (f : Frontend) (c : Call) → answer s f c .clips ≤ 12 * answer s f c .count
 
 -- ---- what a caller can count on that is given a short output
 

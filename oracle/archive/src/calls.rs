@@ -104,11 +104,10 @@ impl Call {
                 None
             }
             Ok(block) => {
-                let made = block.count();
                 let right = state.begins_with(&block.state.numbers())
                     && output.begins_with(&block.output)
-                    && answer.begins_with(&[made as i64, block.taken as i64]);
-                tally.block(self.values.len() / 2, block.taken, made);
+                    && answer.begins_with(&rules::block_answer(&block));
+                tally.block(self.values.len() / 2, &block);
                 tally.answer("a block", number == 0 && right);
                 Some(block.state)
             }

@@ -73,12 +73,6 @@ impl<T: Place> Lent<T> {
             && self.all[end..] == self.before[end..]
     }
 
-    /// Whether the places around those that are lent are as they were.
-    pub fn is_kept_around(&self) -> bool {
-        let end = self.all.len() - MARGIN;
-        self.all[..MARGIN] == self.before[..MARGIN] && self.all[end..] == self.before[end..]
-    }
-
     /// Whether everything is as it was.
     pub fn is_untouched(&self) -> bool {
         self.all == self.before

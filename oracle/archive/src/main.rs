@@ -1,5 +1,5 @@
-//! `compare SEED SAMPLES`: this front end through the archive beside isdb-rs, on runs of so many samples in all, with no text in between; under a delay that
-//! isdb-rs was not built with, beside the reading of docs/RULES.md.
+//! `compare SEED SAMPLES`: this front end through the archive beside the reading of docs/RULES.md, on runs of so many samples in all, with no text in between;
+//! and, under the delay that isdb-rs was built with, beside isdb-rs.
 //! All places that a call is lent to write are looked at after it, and so are others around them.
 
 mod calls;
@@ -39,7 +39,7 @@ fn main() -> ExitCode {
 
 /// A sheet, a run on it, and changed states after it.
 fn one_run(tally: &mut Tally, r: &mut Random) {
-    let kind = r.pick(&["designed", "designed", "extreme", "small"]);
+    let kind = r.pick(&["designed", "designed", "extreme", "small", "clipping"]);
     let (fields, mut samples) =
         generate::sheet_with_samples(kind, r).expect("a kind of sheet that there is");
     let pairs = r.pick(&[100, 2000, 10_000, 30_000]);

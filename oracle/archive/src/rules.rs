@@ -3,7 +3,7 @@
 
 use crate::calls::Call;
 use archive_calls::Sheet;
-use huntelm::archive::{BLOCK, STATE, SYMBOL};
+use huntelm::archive::{BLOCK, BLOCK_CLIPS, BLOCK_COUNT, BLOCK_TAKEN, STATE, SYMBOL};
 use oracle::reading::{Block, Reading};
 use oracle::sheet::{FIELDS, Sheet as Fields};
 use oracle::state::State;
@@ -86,6 +86,15 @@ pub fn block(reading: Result<&Reading, Number>, call: &Call) -> Result<Block, Nu
         None if call.room < BLOCK => Err(11),
         None => Ok(block),
     }
+}
+
+/// The places that a block writes of its answer: how many symbols it made, how many pairs it took, and the clips of the symbols. Those behind them stay.
+pub fn block_answer(block: &Block) -> [i64; 3] {
+    let mut answer = [0; 3];
+    answer[BLOCK_COUNT] = block.count() as i64;
+    answer[BLOCK_TAKEN] = block.taken as i64;
+    answer[BLOCK_CLIPS] = block.clips() as i64;
+    answer
 }
 
 /// Period, gain and symbols.

@@ -1,26 +1,31 @@
-//! A run from a fresh start, through the archive and by isdb-rs, or by the reading of docs/RULES.md under a delay that isdb-rs was not built with, in blocks of
+//! A run from a fresh start, through the archive, by the reading of docs/RULES.md and, under the delay that isdb-rs was built with, by isdb-rs, in blocks of
 //! all sizes and with outputs that are too short for them; and what comes of its end state when it is changed.
 
 use crate::calls::{Call, any_room};
 use crate::lent::Lent;
+use crate::rules;
 use crate::tally::Tally;
 use archive_calls::Sheet;
-use huntelm::archive::{BLOCK, STATE, SYMBOL};
-use oracle::front::Front;
+use huntelm::archive::{BLOCK, STATE};
+use oracle::both::Both;
 use oracle::generate::Samples;
-use oracle::outputs::{self, Outputs};
+use oracle::outputs::Outputs;
 use oracle::random::Random;
-use oracle::reading::Reading;
+use oracle::reading::{Block, Reading};
 use oracle::sheet::Sheet as Fields;
+use oracle::state::State;
 use oracle::states;
 
 /// Changed states after a run.
 const CHANGED: u64 = 8;
 
+/// Where the reading and isdb-rs differ, there is nothing to compare with.
+const AGREED: &str = "the reading and isdb-rs agree";
+
 pub struct Run<'a> {
     fields: &'a Fields,
     sheet: Sheet,
-    front: Front<'a>,
+    both: Both<'a>,
     state: Lent<i64>,
     tally: &'a mut Tally,
     r: &'a mut Random,
@@ -29,16 +34,16 @@ pub struct Run<'a> {
 impl<'a> Run<'a> {
     pub fn start(fields: &'a Fields, tally: &'a mut Tally, r: &'a mut Random) -> Self {
         let sheet = Sheet::from(fields);
-        let front = Front::start(fields);
+        let both = Both::start(fields);
         let mut state = Lent::any(STATE, r);
         tally.answer("judging", sheet.lent().judge() == 0);
         let number = sheet.lent().start(state.places());
-        let right = number == 0 && state.begins_with(&front.state().numbers());
-        tally.answer("starting", right);
+        let fresh = both.state().expect(AGREED).numbers();
+        tally.answer("starting", number == 0 && state.begins_with(&fresh));
         Self {
             fields,
             sheet,
-            front,
+            both,
             state,
             tally,
             r,
@@ -111,11 +116,7 @@ impl<'a> Run<'a> {
             answer.places(),
         );
         self.tally.refusal(number);
-        let taken = match outputs::taken(values.len(), places) {
-            Ok(_) if room < BLOCK => Err(11),
-            taken => taken,
-        };
-        match taken {
+        match self.right(values, places, room) {
             Err(right) => {
                 let untouched =
                     self.state.is_untouched() && output.is_untouched() && answer.is_untouched();
@@ -123,23 +124,37 @@ impl<'a> Run<'a> {
                     .answer("a refused block of a run", number == right && untouched);
                 0
             }
-            Ok(taken) => {
-                let symbols = self.front.process(&pairs[..taken]);
-                let made = symbols.len() / SYMBOL;
-                let right = output.begins_with(&symbols)
-                    && answer.begins_with(&[made as i64, taken as i64])
-                    && self.state.is_kept_around();
-                self.tally.block(pairs.len(), taken, made);
+            Ok(block) => {
+                let right = self.state.begins_with(&block.state.numbers())
+                    && output.begins_with(&block.output)
+                    && answer.begins_with(&rules::block_answer(&block));
+                self.tally.block(pairs.len(), &block);
                 self.tally.answer("a block of a run", number == 0 && right);
-                taken
+                block.taken
             }
         }
+    }
+
+    /// What a block of the run is to leave, or the number that refuses it.
+    fn right(&mut self, values: &[i16], places: usize, room: usize) -> Result<Block, u32> {
+        if room < BLOCK {
+            return Err(11);
+        }
+        let block = self.both.block(values, places).expect(AGREED);
+        match block.refusal.first() {
+            Some(number) => Err(*number as u32),
+            None => Ok(block),
+        }
+    }
+
+    fn right_state(&self) -> State {
+        self.both.state().expect(AGREED).clone()
     }
 
     /// The state, what is read of it, and the offset of its period. isdb-rs shows its state as a long text only, so this is done after some blocks and not
     /// after each.
     fn look(&mut self) {
-        let right = self.front.state();
+        let right = self.right_state();
         let state = self.state.numbers() == right.numbers();
         self.tally.answer("the state of a run", state);
         let mut answer = Lent::any(4, self.r);
@@ -147,7 +162,8 @@ impl<'a> Run<'a> {
             .sheet
             .lent()
             .read(self.state.numbers(), answer.places());
-        let read = number == 0 && answer.begins_with(&self.front.read());
+        let read = self.both.read().expect(AGREED).numbers;
+        let read = number == 0 && answer.begins_with(&read);
         self.tally.answer("reading a run", read);
         let call = Call::good(&self.sheet, &right, 0, self.r);
         let reading = Reading::of(self.fields);
@@ -156,7 +172,7 @@ impl<'a> Run<'a> {
 
     /// Calls in which something is wrong. They change nothing, so the run goes on as if they had not been.
     fn wrong_calls(&mut self) {
-        let state = self.front.state();
+        let state = self.right_state();
         for _ in 0..4 {
             let pairs = self.r.below(6);
             let mut call = Call::good(&self.sheet, &state, pairs, self.r);
@@ -169,7 +185,7 @@ impl<'a> Run<'a> {
     /// docs/RULES.md answers.
     pub fn change(&mut self) {
         let reading = Reading::of(self.fields);
-        let end = self.front.state();
+        let end = self.right_state();
         for _ in 0..CHANGED {
             let mut state = states::changed(self.r, self.fields, &end);
             self.tally.changed += 1;

@@ -1,5 +1,6 @@
 //! How many answers were compared, and how many differed.
 
+use oracle::reading::Block;
 use std::collections::BTreeMap;
 
 /// Differences that are told one by one.
@@ -12,6 +13,9 @@ pub struct Tally {
     pub differed: u64,
     pub samples: u64,
     symbols: u64,
+    /// Symbols of which nothing, and of which everything was clipped.
+    unclipped: u64,
+    all_clipped: u64,
     /// Blocks that took fewer pairs than they were offered.
     cut: u64,
     /// How many calls were refused by which number.
@@ -36,10 +40,13 @@ impl Tally {
     }
 
     /// Counts a block that is not refused.
-    pub fn block(&mut self, offered: usize, taken: usize, symbols: usize) {
-        self.samples += taken as u64;
-        self.symbols += symbols as u64;
-        self.cut += u64::from(taken < offered);
+    pub fn block(&mut self, offered: usize, block: &Block) {
+        let with = |clips: u64| block.symbol_clips.iter().filter(|n| **n == clips).count() as u64;
+        self.samples += block.taken as u64;
+        self.symbols += block.count() as u64;
+        self.unclipped += with(0);
+        self.all_clipped += with(12);
+        self.cut += u64::from(block.taken < offered);
     }
 
     /// Counts a refusal; 0 is none.
@@ -53,11 +60,14 @@ impl Tally {
         let of = |(number, calls): (&u32, &u64)| format!("{calls} by {number}");
         let refused: Vec<String> = self.refused.iter().map(of).collect();
         println!(
-            "{} compared, {} differed; {} samples, {} symbols, {} blocks cut by their output, {} changed states, calls refused {}",
+            "{} compared, {} differed; {} samples, {} symbols, {} of them with no clip and {} with 12, {} blocks cut by their output, {} changed states, \
+             calls refused {}",
             self.compared,
             self.differed,
             self.samples,
             self.symbols,
+            self.unclipped,
+            self.all_clipped,
             self.cut,
             self.changed,
             refused.join(", ")

@@ -1,6 +1,7 @@
 //! Who runs a sheet from its start on: isdb-rs where it was built with the delay of the sheet, else the reading of
 //! docs/RULES.md.
 
+use crate::clips::Clips;
 use crate::reading::{Reading, SYMBOL};
 use crate::sheet::Sheet;
 use crate::state::{Errors, RING, State};
@@ -11,11 +12,20 @@ use isdb_frontend::params::LOOP_DELAY;
 pub const DELAY: u8 = LOOP_DELAY as u8;
 
 /// isdb-rs's front end. Its queue lets go of errors that are applied, and a state (RULES 3.1) keeps them until their place
-/// is written again; so what the symbols report of their errors is kept beside it. Who asks for no places may run the front
-/// end itself.
+/// is written again; so what the symbols report of their errors is kept beside it, and so are the pairs of which clips are
+/// counted. Who asks for neither may run the front end itself.
 pub struct Rust {
     pub front: Frontend,
     errors: Errors,
+    clips: Clips,
+}
+
+/// What isdb-rs makes of a block.
+pub struct Made {
+    /// The numbers of its symbols.
+    pub symbols: Vec<i64>,
+    /// The clips of each of them.
+    pub clips: Vec<u64>,
 }
 
 impl Rust {
@@ -25,18 +35,22 @@ impl Rust {
         runs.then(|| Self {
             front: Frontend::new(sheet.params()).expect("a sheet that was judged"),
             errors: [[0, 0]; RING],
+            clips: Clips::start(),
         })
     }
 
-    /// Runs a block and gives the numbers of its symbols.
-    pub fn process(&mut self, pairs: &[[i16; 2]]) -> Vec<i64> {
+    /// Runs a block.
+    pub fn process(&mut self, pairs: &[[i16; 2]]) -> Made {
         let before = self.front.symbols() as usize;
         let mut symbols = Vec::new();
         self.front.process(pairs, &mut symbols);
         for (j, symbol) in (before..).zip(&symbols) {
             self.errors[j % RING] = [symbol.e.into(), symbol.err.into()];
         }
-        symbols.iter().flat_map(numbers).collect()
+        Made {
+            clips: self.clips.of(self.front.params(), pairs, &symbols),
+            symbols: symbols.iter().flat_map(numbers).collect(),
+        }
     }
 
     pub fn state(&self) -> State {
@@ -76,7 +90,7 @@ impl<'a> Front<'a> {
     /// Runs a block and gives the numbers of its symbols.
     pub fn process(&mut self, pairs: &[[i16; 2]]) -> Vec<i64> {
         match self {
-            Self::Rust(rust) => rust.process(pairs),
+            Self::Rust(rust) => rust.process(pairs).symbols,
             Self::Read(run) => {
                 let (reading, state) = &mut **run;
                 let block = reading.block(state, pairs.as_flattened(), SYMBOL * pairs.len());
@@ -92,14 +106,6 @@ impl<'a> Front<'a> {
         match self {
             Self::Rust(rust) => rust.state(),
             Self::Read(run) => run.1.clone(),
-        }
-    }
-
-    /// Period, gain and symbols.
-    pub fn read(&self) -> [i64; 3] {
-        match self {
-            Self::Rust(rust) => rust.read(),
-            Self::Read(run) => run.0.read(&run.1).numbers,
         }
     }
 }

@@ -28,6 +28,7 @@ pub fn sheet(kind: &str, r: &mut Random) -> io::Result<Sheet> {
         "designed" => designed(r).0,
         "extreme" => extreme(r),
         "small" => small(r),
+        "clipping" => clipping(r).0,
         "refused" if r.one_in(8) => designed(r).0,
         "refused" => extreme(r),
         _ => return Err(usage(&format!("{kind} is no kind of sheet"))),
@@ -47,11 +48,13 @@ fn one_kind<'a>(kind: &'a str, r: &mut Random) -> &'a str {
     }
 }
 
-/// A sheet with samples to run it on: three designed ones in four have a signal of their design, all others noise of the
-/// full range. Half are given the delay of isdb-rs, which runs no other, and the rest any; a delay that is refused stays.
+/// A sheet with samples to run it on: three designed ones in four have a signal of their design, clipping ones samples of
+/// their own, all others noise of the full range. Half are given the delay of isdb-rs, which runs no other, and the rest any;
+/// a delay that is refused stays.
 pub fn sheet_with_samples(kind: &str, r: &mut Random) -> io::Result<(Sheet, Samples)> {
     let (mut sheet, samples) = match one_kind(kind, r) {
         "designed" if !r.one_in(4) => designed_with_signal(r),
+        "clipping" => clipping(r),
         kind => (sheet(kind, r)?, Samples::noise()),
     };
     if DELAYS.contains(&sheet.delay) {
@@ -279,11 +282,16 @@ fn extreme_bank(r: &mut Random, taps: usize, detector: bool) -> Vec<i32> {
     bank
 }
 
+/// Where a row may have coefficients other than 0.
+fn allowed_taps(taps: usize, detector: bool) -> Vec<usize> {
+    (0..taps)
+        .filter(|t| !detector || ted_tap(*t, taps))
+        .collect()
+}
+
 /// A row whose magnitudes sum to the most that is allowed, or to less; of a detector's bank on its own taps only.
 fn extreme_row(r: &mut Random, taps: usize, detector: bool) -> Vec<i32> {
-    let allowed: Vec<usize> = (0..taps)
-        .filter(|t| !detector || ted_tap(*t, taps))
-        .collect();
+    let allowed = allowed_taps(taps, detector);
     let mut row = vec![0i32; taps];
     let mut left = if r.one_in(3) { r.between(0, ROW) } else { ROW };
     match r.below(4) {
@@ -307,6 +315,44 @@ fn extreme_row(r: &mut Random, taps: usize, detector: bool) -> Vec<i32> {
         }
     }
     row
+}
+
+/// A small sheet with samples that it brings to the ends of 16 bits: to 32767 and -32768 themselves, to what is just past them,
+/// and to the halves between, where rounding says whether a number is clipped. All rows have the same weight, in halves of
+/// what passes a sample on as it is, and the gain stays; so one size of samples brings what the filters give to an end, or,
+/// at a gain above 1, what scaling makes of it.
+fn clipping(r: &mut Random) -> (Sheet, Samples) {
+    let halves = r.between(3, 15);
+    let one = 1024;
+    let more = r.between(one, 4 * one);
+    let gain = r.pick(&[one, one, one + 1, more, more, 64 * one - 1]);
+    let taps = r.pick(&[4, 6, 8, 10]);
+    let sheet = Sheet {
+        nco_step: r.pick(&[0, 1 << 30, -1 << 30, i32::MIN]),
+        agc_init: (gain << 8) as u32,
+        // above any power, so that the error is never below zero, and shifted to nothing
+        agc_target: 1 << 20,
+        agc_shift: 63,
+        banks: std::array::from_fn(|bank| weighty_bank(r, taps as usize, bank < 2, halves)),
+        ..extreme_of(r, taps)
+    };
+    debug_assert!(sheet.judge().is_empty());
+    let scale = halves * r.pick(&[one, gain]);
+    let level = ((1 << 16) * one + scale / 2) / scale;
+    (sheet, Samples::level(level))
+}
+
+/// Rows of so many halves, all of one sign; of a detector's bank on its own taps only.
+fn weighty_bank(r: &mut Random, taps: usize, detector: bool, halves: i64) -> Vec<i32> {
+    let allowed = allowed_taps(taps, detector);
+    let mut bank = vec![0; PHASES * taps];
+    for row in bank.chunks_mut(taps) {
+        let half = r.pick(&[1 << 13, -(1 << 13)]);
+        for _ in 0..halves {
+            row[r.pick(&allowed)] += half;
+        }
+    }
+    bank
 }
 
 /// The sheet with one fault or several, each next to the boundary that it breaks. A few are accepted after all: the
@@ -440,6 +486,12 @@ pub enum Samples {
         kind: u64,
         value: [i16; 2],
     },
+    /// Runs of one size, with a sign for each component, or of nothing, off that by one at most.
+    Level {
+        level: i64,
+        run: u64,
+        about: [i64; 2],
+    },
 }
 
 /// Symbols to each side that a sample is made of.
@@ -464,6 +516,14 @@ impl Samples {
             run: 0,
             kind: 0,
             value: [0, 0],
+        }
+    }
+
+    fn level(level: i64) -> Self {
+        Self::Level {
+            level,
+            run: 0,
+            about: [0, 0],
         }
     }
 
@@ -511,6 +571,14 @@ impl Samples {
                     1 => [r.pick(&[i16::MIN, i16::MAX]), r.pick(&[i16::MIN, i16::MAX])],
                     _ => [r.next() as i16, r.next() as i16],
                 }
+            }
+            Self::Level { level, run, about } => {
+                if *run == 0 {
+                    *run = 1 + r.below(40);
+                    *about = about.map(|_| *level * r.pick(&[1, 1, -1, -1, 0]));
+                }
+                *run -= 1;
+                about.map(|v| (v + r.between(-1, 1)) as i16)
             }
         }
     }

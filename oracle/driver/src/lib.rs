@@ -2,7 +2,9 @@
 //! answer to. The driver (main.rs) writes them as text; the comparison through the archive (../archive) uses them as they are.
 
 pub mod against;
+pub mod both;
 pub mod calls;
+pub mod clips;
 pub mod delays;
 pub mod design;
 pub mod floats;

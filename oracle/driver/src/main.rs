@@ -35,7 +35,8 @@ oracle: asks the Rust front end of isdb-rs
                                       what it prints against `symbols`; FILE keeps the first input that differs
   oracle designs SEED COUNT           designs for `design`
 
-KIND is designed, extreme, small, refused or mixed for sheets, and designed, extreme or isdb-s for a recording.
+KIND is designed, extreme, small, clipping, refused or mixed for sheets, and designed, extreme or isdb-s for a
+recording.
 Sheets of `path` have the delay that isdb-rs was built with, recordings and designs one of 24, and others any.
 ";
 

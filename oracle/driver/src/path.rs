@@ -1,19 +1,18 @@
 //! Runs from a fresh start, cut into blocks at random, and by outputs that are too short for a block. What isdb-rs answers is
-//! held against the reading of docs/RULES.md before it is written, and a difference ends the driver: no row is written that
-//! only one of the two stands for. isdb-rs has no output that is too short and refuses no block: it is given the pairs that a
-//! call takes.
+//! held against the reading of docs/RULES.md before it is written (both.rs), and a difference ends the driver: no row is
+//! written that only one of the two stands for.
 
-use crate::front::{DELAY, Rust};
+use crate::both::Both;
+use crate::front::DELAY;
 use crate::generate::{self, Samples};
-use crate::outputs::{self, Outputs};
+use crate::outputs::Outputs;
 use crate::random::Random;
-use crate::reading::{Reading, SYMBOL};
+use crate::reading::SYMBOL;
 use crate::rows::Rows;
 use crate::sheet::{DELAYS, Sheet};
-use crate::state::State;
 use std::io::{self, Write};
 
-/// Pairs of a run; of a small sheet's there are a tenth at most, so that they can be stored.
+/// Pairs of a run; of a small or a clipping sheet's there are a tenth at most, so that they can be stored.
 const PAIRS: u64 = 1200;
 
 pub fn write(kind: &str, seed: u64, count: u64, output: &mut impl Write) -> io::Result<()> {
@@ -26,10 +25,10 @@ pub fn write(kind: &str, seed: u64, count: u64, output: &mut impl Write) -> io::
             sheet.delay = DELAY;
         }
         let mut run = Run::start(&sheet, &mut rows)?;
-        let pairs = match run.front {
-            None => 1 + r.below(30),
-            Some(_) if kind == "small" => PAIRS / 20 + r.below(PAIRS / 20 + 1),
-            Some(_) => PAIRS,
+        let pairs = match kind {
+            _ if run.is_refused() => 1 + r.below(30),
+            "small" | "clipping" => PAIRS / 20 + r.below(PAIRS / 20 + 1),
+            _ => PAIRS,
         };
         run.go_on(pairs, &mut samples, &mut r)?;
     }
@@ -37,29 +36,22 @@ pub fn write(kind: &str, seed: u64, count: u64, output: &mut impl Write) -> io::
 }
 
 struct Run<'a, 'b, W> {
-    sheet: &'a Sheet,
     rows: &'a mut Rows<'b, W>,
-    /// isdb-rs's front end; there is none under a sheet that is refused.
-    front: Option<Rust>,
-    reading: Reading<'a>,
-    /// The state that the reading handed back last.
-    state: State,
+    both: Both<'a>,
 }
 
 impl<'a, 'b, W: Write> Run<'a, 'b, W> {
     fn start(sheet: &'a Sheet, rows: &'a mut Rows<'b, W>) -> io::Result<Self> {
-        let reading = Reading::of(sheet);
+        let both = Both::start(sheet);
         rows.sheet(sheet)?;
-        rows.started(reading.refusal())?;
-        let mut run = Self {
-            sheet,
-            state: reading.start(),
-            rows,
-            front: Rust::start(sheet),
-            reading,
-        };
+        rows.started(both.refusal())?;
+        let mut run = Self { rows, both };
         run.tell_state()?;
         Ok(run)
+    }
+
+    fn is_refused(&self) -> bool {
+        !self.both.refusal().is_empty()
     }
 
     /// Runs so many pairs, block after block.
@@ -78,7 +70,7 @@ impl<'a, 'b, W: Write> Run<'a, 'b, W> {
             }
             all.extend(values);
         }
-        self.end(&all)
+        self.both.end(&all)
     }
 
     /// Offers values, and again what is left of them, until all are taken, with an odd block before some calls. Under a sheet that
@@ -92,7 +84,7 @@ impl<'a, 'b, W: Write> Run<'a, 'b, W> {
             self.rows.values(rest)?;
             let taken = self.block(rest, outputs.places(r, rest.len() / 2))?;
             rest = &rest[2 * taken..];
-            if rest.is_empty() || self.front.is_none() {
+            if rest.is_empty() || self.is_refused() {
                 return Ok(());
             }
             if r.one_in(16) {
@@ -120,47 +112,18 @@ impl<'a, 'b, W: Write> Run<'a, 'b, W> {
 
     /// A block, and how many pairs it took.
     fn block(&mut self, values: &[i16], places: usize) -> io::Result<usize> {
-        let block = self.reading.block(&self.state, values, places);
-        if let Some(front) = &mut self.front {
-            let (taken, refusal) = match outputs::taken(values.len(), places) {
-                Ok(taken) => (taken, Vec::new()),
-                Err(number) => (0, vec![number.into()]),
-            };
-            same("what refuses a block", &refusal, &block.refusal)?;
-            same("the pairs taken", &[taken as i64], &[block.taken as i64])?;
-            let symbols = front.process(&values.as_chunks().0[..taken]);
-            same("symbols", &symbols, &block.output)?;
-        }
+        let block = self.both.block(values, places)?;
         self.rows.block(places, &block)?;
-        self.state = block.state;
         Ok(block.taken)
-    }
-
-    /// isdb-rs once more, on all pairs in one block: by how many calls they were taken has changed nothing.
-    fn end(&self, values: &[i16]) -> io::Result<()> {
-        let Some(mut whole) = Rust::start(self.sheet) else {
-            return Ok(());
-        };
-        whole.process(values.as_chunks().0);
-        let end = whole.state().numbers();
-        same("the end state", &end, &self.state.numbers())
     }
 
     /// The state in force, as the answer that it is.
     fn tell_state(&mut self) -> io::Result<()> {
-        if let Some(front) = &self.front {
-            let rust = front.state().numbers();
-            same("the state", &rust, &self.state.numbers())?;
-        }
-        self.rows.state(&self.state)
+        self.rows.state(self.both.state()?)
     }
 
     fn read(&mut self) -> io::Result<()> {
-        let read = self.reading.read(&self.state);
-        if let Some(front) = &self.front {
-            same("what is read", &front.read(), &read.numbers)?;
-        }
-        self.rows.read(&read)
+        self.rows.read(&self.both.read()?)
     }
 }
 
@@ -177,16 +140,4 @@ fn block_size(r: &mut Random, pairs: u64, outputs: Outputs) -> u64 {
         4..=6 => r.below(pairs / 3 + 1),
         _ => r.below(2 * pairs),
     }
-}
-
-/// Fails where the run by isdb-rs and the reading differ, and says in which number first.
-fn same(what: &str, rust: &[i64], reading: &[i64]) -> io::Result<()> {
-    if rust == reading {
-        return Ok(());
-    }
-    let at = rust.iter().zip(reading).take_while(|(a, b)| a == b).count();
-    let (rust, reading) = (rust.get(at), reading.get(at));
-    Err(io::Error::other(format!(
-        "the run by isdb-rs and the reading of docs/RULES.md differ in {what}, number {at}: {rust:?} and {reading:?}"
-    )))
 }

@@ -1,6 +1,6 @@
 //! A reading of docs/RULES.md, written apart from crates/: plain arithmetic in 128 bits and no care for speed. Of isdb-rs's
-//! code it uses judging and the cosine table and nothing else. It answers where isdb-rs has no answer: the offset, calls
-//! that are refused, states that no run reaches. Where isdb-rs has one, the two are held against each other (path.rs).
+//! code it uses judging and the cosine table and nothing else. It answers where isdb-rs has no answer: the offset, clips, calls
+//! that are refused, states that no run reaches. Where isdb-rs has one, the two are held against each other (both.rs).
 
 mod way;
 
@@ -25,6 +25,8 @@ pub struct Block {
     pub output: Vec<i64>,
     /// How many pairs it took: none where it is refused.
     pub taken: usize,
+    /// The clips of each symbol that it writes, from 0 to 12.
+    pub symbol_clips: Vec<u64>,
     pub refusal: Vec<i64>,
 }
 
@@ -32,6 +34,11 @@ impl Block {
     /// The symbols that were written.
     pub fn count(&self) -> usize {
         self.output.len() / SYMBOL
+    }
+
+    /// The clips of these symbols, added up.
+    pub fn clips(&self) -> u64 {
+        self.symbol_clips.iter().sum()
     }
 }
 
@@ -101,13 +108,17 @@ impl<'a> Reading<'a> {
             state: state.clone(),
             output: Vec::new(),
             taken,
+            symbol_clips: Vec::new(),
             refusal,
         };
         for pair in values.chunks(2).take(taken) {
             let pair = [pair[0].into(), pair[1].into()];
             if let Some(symbol) = self.sample(&mut block.state, pair) {
-                let symbol = symbol.map(|n| i64::try_from(n).expect("64 bits hold it"));
-                block.output.extend(symbol);
+                let places = symbol
+                    .places
+                    .map(|n| i64::try_from(n).expect("64 bits hold it"));
+                block.output.extend(places);
+                block.symbol_clips.push(symbol.clips);
             }
         }
         block

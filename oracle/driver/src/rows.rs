@@ -74,9 +74,12 @@ impl<'a, W: Write> Rows<'a, W> {
 
     /// A block into so many places, and what it wrote there.
     pub fn block(&mut self, places: usize, block: &Block) -> io::Result<()> {
-        let (symbols, taken) = (block.count(), block.taken);
+        let (symbols, taken, clips) = (block.count(), block.taken, block.clips());
         let refusal = answer(&block.refusal);
-        writeln!(self.output, "10,{places},{symbols},{taken},{refusal}")?;
+        writeln!(
+            self.output,
+            "10,{places},{symbols},{taken},{clips},{refusal}"
+        )?;
         for (n, part) in block.output.chunks(OUTPUT).enumerate() {
             writeln!(self.output, "11,{},{}", n * OUTPUT, joined(part))?;
         }

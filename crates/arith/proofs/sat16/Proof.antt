@@ -1,15 +1,19 @@
--- `arith::sat16` meets its contract: it is `clamp` between the ends of 16 bits.
--- What lies between two numbers of 16 bits is one, so the cast loses nothing.
-use mathlib.Core.Path.{_≡_}
+-- `arith::sat16` meets its contract: it is `clamp` between the ends of 16 bits. What lies between two numbers of 16 bits is one, so the cast loses nothing;
+-- and the bits of two numbers differ where the numbers do.
+use mathlib.Core.Path.{_≡_, ap, _∙_}
+use mathlib.Core.Bool.{_||_}
 use lib.Dec.{lit≤}
 use native.Mathlib.Omega.{arith}
-use lib.IntN.{pos, negsuc}
+use lib.IntN.{ℤ, pos, negsuc}
+use lib.Signed.{ltZ}
 use mir.Syntax.{w16, w64}
 use mir.Val.{SFits}
 use mir.Facts.{toZ-ofZ, sfits-widen}
 use borrow.Author.Needs.{needs}
-use Rattle.arith.specs.Arith.{sat16Z}
+use Rattle.arith.specs.Arith.{sat16Z, sat16Changes}
 use Rattle.arith.proofs.Magnitude.{clamp-mag}
+use Rattle.arith.proofs.Tested.{differ}
+use Rattle.arith.proofs.Widths.{narrows, narrowed}
 use Rattle.arith.proofs.sat16.Statement.{statement}
 use Rattle.arith.proofs.sat16.Tie as tie
 
@@ -24,11 +28,17 @@ fits : (c : tie.After-clamp) → SFits w16 (c .clamp .result)
 unfolding sat16Z
 fits c = rw (is c) (record { sfits = omega (arith, clamp-mag (c .before .args .v) (negsuc 32767) (pos 32767) 32767 (lit≤ tt) (lit≤ tt)) })
 
-cast-result : tie.Need-cast-result
-cast-result c = simp (toZ-ofZ (sfits-widen {w′ = w64} tt (fits c))) (fits c)
+cast-t3 : tie.Need-cast-t3
+cast-t3 c = narrows tt (fits c)
 
 returns : tie.Need-returns
-returns c = simp (toZ-ofZ (sfits-widen {w′ = w64} tt (fits c)), toZ-ofZ (fits c)) (is c)
+unfolding sat16Changes
+returns c =
+    let v = c .before .args .v in
+    let wide = sfits-widen {w′ = w64} tt (fits c) in
+    let value = narrowed tt (fits c) ∙ is c in
+    let changed = differ (c .clamp .result) v wide (c .before .fits .v) ∙ ap (λ (z : ℤ). ltZ v z || ltZ z v) (is c) in
+    λ i. record { value = value i; changed = changed i }
 
 pub sat16-spec : {M : Type 1} → statement M
-sat16-spec = tie.close (tie.spec clamp-requires cast-result returns)
+sat16-spec = tie.close (tie.spec clamp-requires cast-t3 returns)

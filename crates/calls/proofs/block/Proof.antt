@@ -1,5 +1,5 @@
 -- `calls::block` meets its contract: it refuses in the definition's order, and then has touched nothing. Where nothing is refused, the block's state has
--- places again (Answers, `left`), and so have its symbols and its pairs, which can be counted.
+-- places again (Answers, `left`); its symbols and its pairs can be counted, and its clips are fewer than the places of its output.
 use Prim.Native.Nat.{ℕ, _≤_}
 use mathlib.Core.Path.{_≡_, refl, sym, ap, subst, _∙_}
 use mathlib.Core.Bool.{true, cond}
@@ -21,6 +21,7 @@ use Rattle.params.specs.Judge.{Sheet, sheetOf}
 use Rattle.state.specs.declared.Frontend.{Frontend}
 use Rattle.fixed.specs.Block.{Block, blockOf, processed}
 use Rattle.fixed.proofs.Refused.{number-first}
+use Rattle.fixed.proofs.Clips.{block-few}
 use Rattle.places.specs.Sheet.{sheetNumber}
 use Rattle.kinds.specs.Answer.{Answer, firstNumber}
 use Rattle.places.specs.States.{stateFits, stateOf, numbersOf, hasPlaces, stateWritten}
@@ -53,7 +54,7 @@ module _ (l h g k state values out answer : List ℤ) where
   unfolding blockAnswer
   refuses h e o = rw (ne-eqb number 0 (λ z. h (e ∙ z))) (λ i. record { number = e i; state = state; output = o i; answer = answer })
 
-  writes : {s o w : List ℤ} → 0 ≡ number → s ≡ numbersOf (block .state) → o ≡ block .output → w ≡ pos (block .count) ∷ pos (block .taken) ∷ drop 2 answer
+  writes : {s o w : List ℤ} → 0 ≡ number → s ≡ numbersOf (block .state) → o ≡ block .output → w ≡ pos (block .count) ∷ pos (block .taken) ∷ pos (block .clips) ∷ drop 3 answer
       → _≡_ {A = BlockAnswer} (record { number = 0; state = s; output = o; answer = w }) (blockAnswer l h g k state values out answer)
   unfolding blockAnswer
   writes e s o w = rw (eq-eqb number 0 (sym e)) (λ i. record { number = 0; state = s i; output = o i; answer = w i })
@@ -218,15 +219,23 @@ module _ (c : tie.Else3) where
       told running
       ∙ ap (λ (f : Frontend). blockFrom from (asked from) f) (from .read-state .ensures ∙ state-read (asked from) (places from) fitting)
 
-  leaves : Left (blockFrom from (asked from) (stateOf (places from)))
+  leaves : Left (blockFrom from (asked from) (stateOf (places from))) (length (start from .args .out .now))
   leaves = left _ _ _ _ (none from accepts .1)
 
-  -- both counts, as signed numbers
+  -- the three counts, as signed numbers
   counted : running .process .result .count ≤ 9223372036854775807
   counted = subst (λ (n : ℕ). n ≤ 9223372036854775807) (ap (λ (b : Block). b .count) (sym done)) (leaves .counted)
 
   took : running .process .result .taken ≤ 9223372036854775807
   took = subst (λ (n : ℕ). n ≤ 9223372036854775807) (ap (λ (b : Block). b .taken) (sym done)) (leaves .taken)
+
+  -- a slice of 64-bit numbers has fewer than 2^60 of them
+  clipped : running .process .result .clips ≤ 9223372036854775807
+  clipped =
+      let a = start from .args in
+      let few = block-few (asked from) (stateOf (places from)) (a .values .now) (a .out .now) in
+      subst (λ (n : ℕ). n ≤ 9223372036854775807) (ap (λ (b : Block). b .clips) (sym done))
+      (omega (arith, few, leaves .roomy, start from .good .1 .1 .1 .1 .1 .1 .0 .1))
 
 write-state-requires : tie.Need-write-state-requires
 write-state-requires c κs = search needs
@@ -240,15 +249,21 @@ slice-set-from-answer c = search needs
 cast-answer-2 : tie.Need-cast-answer-2
 cast-answer-2 c = sfit (omega (arith, took (c .before .before .before .before .before .before)))
 
-abbrev passed : tie.After-struct-known2 → tie.Else3
-passed c = c .before .before .before .before .before .before
+abbrev passed : tie.After-struct-known3 → tie.Else3
+passed c = c .before .before .before .before .before .before .before
+
+cast-answer-3 : tie.Need-cast-answer-3
+cast-answer-3 c = sfit (omega (arith, clipped (passed c)))
 
 -- there are four places
 roomy : (c : tie.Else3) → 4 ≤ length (start (from c) .args .answer .now)
 roomy c = running c .before .before .if1 .left
 
 slice-set-from-answer-2 : tie.Need-slice-set-from-answer-2
-slice-set-from-answer-2 c = simp length-set (omega (arith, roomy (passed c)))
+slice-set-from-answer-2 c = simp length-set (omega (arith, roomy (c .before .before .before .before .before .before)))
+
+slice-set-from-answer-3 : tie.Need-slice-set-from-answer-3
+slice-set-from-answer-3 c = simp length-set (omega (arith, roomy (passed c)))
 
 same-length-5 : tie.Need-same-length-5
 same-length-5 c = search needs
@@ -264,12 +279,12 @@ written : (f : Frontend) (l : List ℤ) → length l ≡ 186 → hasPlaces f ≡
 unfolding stateWritten
 written f l long placed = rw (eq-eqb (length l) 186 long, placed) refl
 
--- what two stores leave, once the casts are read back
-stored : (count taken : ℕ) (l : List ℤ) → count ≤ 9223372036854775807 → taken ≤ 9223372036854775807 → 4 ≤ length l
-    → sets l 0 (toZ w64 count ∷ toZ w64 taken ∷ []) ≡ pos count ∷ pos taken ∷ drop 2 l
-stored count taken l c t long =
-    simp (toZ-pos w64 {n = count} (omega arith), toZ-pos w64 {n = taken} (omega arith))
-    (sets-eq (pos count ∷ pos taken ∷ []) l 0 (omega arith))
+-- what three stores leave, once the casts are read back
+stored : (count taken clips : ℕ) (l : List ℤ) → count ≤ 9223372036854775807 → taken ≤ 9223372036854775807 → clips ≤ 9223372036854775807 → 4 ≤ length l
+    → sets l 0 (toZ w64 count ∷ toZ w64 taken ∷ toZ w64 clips ∷ []) ≡ pos count ∷ pos taken ∷ pos clips ∷ drop 3 l
+stored count taken clips l c t k long =
+    simp (toZ-pos w64 {n = count} (omega arith), toZ-pos w64 {n = taken} (omega arith), toZ-pos w64 {n = clips} (omega arith))
+    (sets-eq (pos count ∷ pos taken ∷ pos clips ∷ []) l 0 (omega arith))
 
 returns-5 : tie.Need-returns-5
 returns-5 c =
@@ -280,11 +295,12 @@ returns-5 c =
     let b = running e .process .result in
     let long : _≡_ {A = ℕ} 0 (room w) = rw (le-leb 4 (length w) (roomy e)) refl in
     writes _ _ _ _ _ _ _ _ (deciding r (accepts e) long)
-    (ap (λ (a : Answer). a .places) (c .before .before .before .write-state .ensures)
+    (ap (λ (a : Answer). a .places) (c .before .before .before .before .write-state .ensures)
     ∙ ap (λ (x : Block). stateWritten (x .state) l .places) (done e)
     ∙ written (blockFrom r (asked r) (stateOf l) .state) l (state-long l (fitting e)) (leaves e .placed))
     (ap (λ (x : Block). x .output) (done e))
-    (stored (b .count) (b .taken) w (counted e) (took e) (roomy e) ∙ ap (λ (x : Block). pos (x .count) ∷ pos (x .taken) ∷ drop 2 w) (done e))
+    (stored (b .count) (b .taken) (b .clips) w (counted e) (took e) (clipped e) (roomy e)
+    ∙ ap (λ (x : Block). pos (x .count) ∷ pos (x .taken) ∷ pos (x .clips) ∷ drop 3 w) (done e))
 
 pub block-spec : {M : Type 1} → statement M
 block-spec =
@@ -310,6 +326,8 @@ block-spec =
     slice-set-from-answer
     cast-answer-2
     slice-set-from-answer-2
+    cast-answer-3
+    slice-set-from-answer-3
     returns-4
     same-length-5
     same-length-6

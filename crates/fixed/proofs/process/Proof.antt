@@ -25,9 +25,9 @@ unfolding blockOf
 runs s f values out none e = rw none e
 
 none-run : (s : Sheet) (f : Frontend) (values out : List ℤ) {r : Refusal} → 0 < r .number → r ≡ firstOf (blockFaults s f (length values) (length out))
-    → _≡_ {A = Block} (record { refused = r; state = f; taken = 0; count = 0; output = out }) (blockOf s f values out)
+    → _≡_ {A = Block} (record { refused = r; state = f; taken = 0; count = 0; clips = 0; output = out }) (blockOf s f values out)
 unfolding blockOf
-none-run s f values out h told = rw (not-none told h) (λ i. record { refused = told i; state = f; taken = 0; count = 0; output = out })
+none-run s f values out h told = rw (not-none told h) (λ i. record { refused = told i; state = f; taken = 0; count = 0; clips = 0; output = out })
 
 check-block-requires : tie.Need-check-block-requires
 check-block-requires c κs = search needs

@@ -16,7 +16,7 @@ use Rattle.state.specs.declared.Position.{Position}
 use Rattle.state.specs.declared.Frontend.{Frontend}
 use Rattle.state.specs.Check.{pairsTaken}
 use Rattle.fixed.specs.Sample.{after, emitted}
-use Rattle.fixed.specs.Block.{Block, pairsOf, flattened, accepted}
+use Rattle.fixed.specs.Block.{Block, pairsOf, flattened, clipsOf, accepted}
 use Rattle.fixed.specs.Inside.{kept, Stands}
 use Rattle.state.proofs.Going.{going}
 use Rattle.state.proofs.Verdicts.{Faultless, faultless, outline-good}
@@ -199,19 +199,20 @@ pack-pending-requires c κs = search needs
 same-length : tie.Need-same-length
 same-length c = search needs
 
--- a block's answer, from the pairs that it takes, the state that it leaves and the symbols that it wrote
-answer : (s : Sheet) (f : Frontend) (values out : List ℤ) {n count : ℕ} {new : Frontend} {o : List ℤ} → n ≡ pairsTaken (length values) (length out)
+-- a block's answer, from the pairs that it takes, the state that it leaves, and the symbols that it wrote with their clips
+answer : (s : Sheet) (f : Frontend) (values out : List ℤ) {n count clips : ℕ} {new : Frontend} {o : List ℤ} → n ≡ pairsTaken (length values) (length out)
     → let ys : List Symbol = emitted s f (take n (pairsOf values)) in
-    new ≡ after s f (take n (pairsOf values)) → count ≡ length ys → o ≡ flattened ys ++ drop (20 * count) out
-    → _≡_ {A = Block} (record { refused = nothing; state = new; taken = n; count = count; output = o }) (accepted s f values out)
+    new ≡ after s f (take n (pairsOf values)) → count ≡ length ys → clips ≡ clipsOf ys → o ≡ flattened ys ++ drop (20 * count) out
+    → _≡_ {A = Block} (record { refused = nothing; state = new; taken = n; count = count; clips = clips; output = o }) (accepted s f values out)
 unfolding accepted
-answer s f values out {n} taken state count output =
+answer s f values out {n} taken state count clips output =
     rw (sym taken)
     (λ i. record {
       refused = nothing;
       state = state i;
       taken = n;
       count = count i;
+      clips = clips i;
       output = (output ∙ ap (λ (m : ℕ). flattened (emitted s f (take n (pairsOf values))) ++ drop (20 * m) out) count) i;
     })
 
@@ -228,7 +229,8 @@ returns c =
     (put-together (ends r)
     (line-packed (a .f .line) (ends r .line) (λ n h. after-rest (sheet s) (a .f) (pairs (r .before)) n head h) (l .pack-line .ensures))
     (queue-packed (ends r .queue) (c .pack-pending .ensures)))
-    (rw (cut (r .before)) at (r .run .ensures .counted (a .f) begin)) (rw (cut (r .before)) at (r .run .ensures .written (a .f) begin))
+    (rw (cut (r .before)) at (r .run .ensures .counted (a .f) begin)) (rw (cut (r .before)) at (r .run .ensures .clipped (a .f) begin))
+    (rw (cut (r .before)) at (r .run .ensures .written (a .f) begin))
 
 pub run-spec : {M : Type 1} → statement M
 run-spec =

@@ -33,7 +33,7 @@ sat16-requires : tie.Need-sat16-requires
 sat16-requires c κs = search needs
 
 cast-result : tie.Need-cast-result
-cast-result c = widens w64 tt (sfits-of {w = w16} {z = c .sat16 .result} (c .sat16 .ok))
+cast-result c = widens w64 tt (sfits-of {w = w16} {z = c .before .before .sat16 .result .value} (search (c .struct-told .given)))
 
 returns-4 : tie.Need-returns-4
 returns-4 c = search needs

@@ -6,9 +6,19 @@ use crate::state::{RING, State};
 /// A sample, the unit of t and of periods.
 const ONE: i128 = 1 << 24;
 
+/// What the three filters give, or the scaling of it: I and Q each.
+type Pairs = [[i128; 2]; 3];
+
+pub(super) struct Symbol {
+    /// What it writes.
+    pub(super) places: [i128; SYMBOL],
+    /// How many of its twelve clamps to 16 bits changed their number.
+    pub(super) clips: u64,
+}
+
 impl Reading<'_> {
-    /// Takes a pair, and gives the numbers of the symbol that it brings, if it brings one.
-    pub(super) fn sample(&self, s: &mut State, pair: [i128; 2]) -> Option<[i128; SYMBOL]> {
+    /// Takes a pair, and gives the symbol that it brings, if it brings one.
+    pub(super) fn sample(&self, s: &mut State, pair: [i128; 2]) -> Option<Symbol> {
         let mixed = self.mixed(s.nco, pair);
         s.nco = (s.nco + i128::from(self.sheet.nco_step)).rem_euclid(1 << 32);
         s.head = (s.head - 1).rem_euclid(self.sheet.taps.into());
@@ -25,29 +35,34 @@ impl Reading<'_> {
         [(i * c - q * s + 16384) >> 15, (i * s + q * c + 16384) >> 15]
     }
 
-    fn symbol(&self, s: &mut State) -> [i128; SYMBOL] {
+    fn symbol(&self, s: &mut State) -> Symbol {
         let sheet = self.sheet;
         let phase = s.t_acc >> 18;
         if s.waiting == i128::from(sheet.delay) {
             let errors = taken(s);
             self.steer(s, errors);
         }
-        let [y, dy, yk] = [0, 1, 2].map(|bank| self.filtered(s, bank, phase as usize));
+        let sums = [0, 1, 2].map(|bank| self.sums(s, bank, phase as usize));
+        let (filtered, clips) = sixteen(each(sums, |sum| rounded(sum, 14)));
         let gain = s.gain_acc >> 8;
-        let [z, dz, zk] = [y, dy, yk].map(|pair| pair.map(|v| sixteen(rounded(v * gain, 10))));
+        let (scaled, more_clips) = sixteen(each(filtered, |v| rounded(v * gain, 10)));
+        let ([y, dy, yk], [z, dz, zk]) = (filtered, scaled);
         let end = 1 << (sheet.bits - 1);
         let q = zk.map(|v| rounded(v, sheet.q_shift).clamp(-end, end - 1));
         let e = ((z[0] * dz[0] + z[1] * dz[1]) >> sheet.ted_shift).clamp(-8388607, 8388607);
         let power = (zk[0] * zk[0] + zk[1] * zk[1]) >> 12;
         let err = signed(i128::from(sheet.agc_target) - power);
-        let symbol = [
+        let places = [
             s.samples, phase, y[0], y[1], dy[0], dy[1], yk[0], yk[1], gain, s.period, z[0], z[1],
             dz[0], dz[1], zk[0], zk[1], q[0], q[1], e, err,
         ];
         join(s, [e, err]);
         s.t_acc += s.period;
         s.symbols += 1;
-        symbol
+        Symbol {
+            places,
+            clips: clips + more_clips,
+        }
     }
 
     /// What errors that are due do to integrator, period and gain.
@@ -66,7 +81,7 @@ impl Reading<'_> {
     }
 
     /// The line through a row of a bank: I and Q.
-    fn filtered(&self, s: &State, bank: usize, phase: usize) -> [i128; 2] {
+    fn sums(&self, s: &State, bank: usize, phase: usize) -> [i128; 2] {
         let taps = self.sheet.taps as usize;
         let row = &self.sheet.banks[bank][phase * taps..(phase + 1) * taps];
         let sum = |part: usize| -> i128 {
@@ -75,7 +90,7 @@ impl Reading<'_> {
                 .map(|(n, c)| i128::from(*c) * s.line[(s.head as usize + n) % taps][part])
                 .sum()
         };
-        [sum(0), sum(1)].map(|sum| sixteen(rounded(sum, 14)))
+        [sum(0), sum(1)]
     }
 }
 
@@ -98,9 +113,16 @@ fn rounded(v: i128, s: u8) -> i128 {
     if s == 0 { v } else { (v + (1 << (s - 1))) >> s }
 }
 
-/// Clamped to 16 bits signed.
-fn sixteen(v: i128) -> i128 {
-    v.clamp(-32768, 32767)
+fn each(pairs: Pairs, f: impl Fn(i128) -> i128) -> Pairs {
+    pairs.map(|pair| pair.map(&f))
+}
+
+/// The six numbers clamped to 16 bits signed, and how many of them that changed.
+fn sixteen(pairs: Pairs) -> (Pairs, u64) {
+    let clamped = each(pairs, |v| v.clamp(-32768, 32767));
+    let both = pairs.as_flattened().iter().zip(clamped.as_flattened());
+    let changed = both.filter(|(before, after)| before != after).count();
+    (clamped, changed as u64)
 }
 
 /// The number of 32 bits and a sign that differs from v by a multiple of 2^32.

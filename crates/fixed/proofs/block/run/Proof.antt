@@ -1,7 +1,7 @@
 -- `fixed::block::run` meets its contract: each turn reads one pair, pushes it and writes its symbol, and keeps what holds of the turns before (Turns).
 -- After the last turn all pairs are taken, and what holds is the contract.
-use Prim.Native.Nat.{_+_, _-_, _*_, _/_, _<_}
-use mathlib.Core.Path.{_≡_, sym, _∙_}
+use Prim.Native.Nat.{ℕ, _+_, _-_, _*_, _/_, _≤_, _<_}
+use mathlib.Core.Path.{_≡_, sym, subst, _∙_}
 use native.Mathlib.Omega.{arith}
 use lib.ListN.{length, getD}
 use lib.IntN.{pos}
@@ -14,16 +14,16 @@ use Rattle.state.specs.declared.Pair.{Pair}
 use Rattle.state.specs.Start.{noPair}
 use Rattle.fixed.specs.Block.{pairsOf}
 use Rattle.fixed.specs.Inside.{Kept, kept}
-use Rattle.fixed.proofs.Turns.{Turned, Turn, pairs-at, turned-none, turned-next, turned-ready, turned-all}
+use Rattle.fixed.proofs.Turns.{added-few, Turned, Turn, pairs-at, turned-none, turned-next, turned-ready, turned-all}
 use Rattle.fixed.proofs.block.run.Statement.{statement}
 use Rattle.fixed.proofs.block.run.Tie as tie
 
 abbrev Inv-loop : tie.InvT-loop
-Inv-loop p h g k values out₀ i₀ q₀ e₀ err₀ cos registers₀ position₀ count₀ n₀ out i q e err registers position count n =
-    Turned (sheetOf p h g k) values out₀ (kept i₀ q₀ e₀ err₀ registers₀ position₀) out (kept i q e err registers position) count n
+Inv-loop p h g k values out₀ i₀ q₀ e₀ err₀ cos registers₀ position₀ count₀ clips₀ n₀ out i q e err registers position count clips n =
+    Turned (sheetOf p h g k) values out₀ (kept i₀ q₀ e₀ err₀ registers₀ position₀) out (kept i q e err registers position) count clips n
 
 abbrev μ-loop : tie.MeasureT-loop
-μ-loop p h g k values out₀ i₀ q₀ e₀ err₀ cos registers₀ position₀ count₀ n₀ out i q e err registers position count n =
+μ-loop p h g k values out₀ i₀ q₀ e₀ err₀ cos registers₀ position₀ count₀ clips₀ n₀ out i q e err registers position count clips n =
     length values / 2 - n
 
 -- ---- the sheet, and what is kept where the block begins
@@ -126,25 +126,37 @@ module _ (c : tie.After-push Inv-loop μ-loop) where
 emit-requires : tie.Need-emit-requires Inv-loop μ-loop
 emit-requires c κs = search needs
 
+clips-of-requires : tie.Need-clips-of-requires Inv-loop μ-loop
+clips-of-requires c κs = search needs
+
+-- the push behind the clips that it adds
+abbrev pushed : tie.After-clips-of Inv-loop μ-loop → tie.After-push Inv-loop μ-loop
+pushed c = c .before .before .before .before .before .before .before .before .before .before .before
+
+added : (c : tie.After-clips-of Inv-loop μ-loop) → c .clips-of .result ≤ 12
+added c =
+    let p = pushed c .push in
+    subst (λ (n : ℕ). n ≤ 12) (sym (c .clips-of .ensures)) (added-few (p .result .made) (p .result .symbol) (p .ensures .few))
+
+add-clips : tie.Need-add-clips Inv-loop μ-loop
+add-clips c =
+    let t = turn (pushed c) in
+    record { fits = omega (arith, added c, at-loop t .loop .inv .few-clips, below t, start t .pre .1 .0) }
+
 add-n : tie.Need-add-n Inv-loop μ-loop
-add-n c =
-    let t = c .before .before .before .before .before .before .before .before .before .before .before .before .before .before .before .before .before .before
-    .before .before in
-    record { fits = omega (arith, below t, start t .pre .1 .1) }
+add-n c = let t = turn (pushed (c .before .before)) in record { fits = omega (arith, below t, start t .pre .1 .1) }
 
 loop-less : tie.Need-loop-less Inv-loop μ-loop
-loop-less c =
-    let t = c .before .before .before .before .before .before .before .before .before .before .before .before .before .before .before .before .before .before
-    .before .before in
-    omega (arith, below t)
+loop-less c = let t = turn (pushed (c .before .before)) in omega (arith, below t)
 
 loop-again : tie.Need-loop-again Inv-loop μ-loop
 loop-again c =
-    let e = c .before .before .before in
-    let u = c .before .before .before .before .before .before .before .before .before .before .before .before in
+    let a = c .before .before in
+    let e = a .before .before in
+    let u = pushed a in
     let b = b u in
     turned-next (sheet b) (b .args .values .now) (b .args .out .now) (x₀ b) (b .pre .1 .0) (b .pre .1 .1)
-    (at-loop (turn u) .loop .inv) (below (turn u)) (read-is u) (turns u) (e .emit .ensures) (e .emit .kept .0)
+    (at-loop (turn u) .loop .inv) (below (turn u)) (read-is u) (turns u) (e .emit .ensures) (e .emit .kept .0) (a .clips-of .ensures)
 
 same-length : tie.Need-same-length Inv-loop μ-loop
 same-length c = c .before .loop .inv .long
@@ -184,6 +196,8 @@ run-spec =
     shared-slice-copy-out-push-2
     push-requires
     emit-requires
+    clips-of-requires
+    add-clips
     add-n
     loop-less
     loop-again

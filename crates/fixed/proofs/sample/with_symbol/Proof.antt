@@ -1,6 +1,6 @@
 -- `fixed::sample::with_symbol` meets its contract: the registers step as the state's do, and the symbol is made of what they then hold.
 -- What it does to registers, positions and queue is what the definition does to the state that they stand for (Kept).
-use Prim.Native.Nat.{ℕ, _+_, _/_, _%_, _<_}
+use Prim.Native.Nat.{ℕ, _+_, _/_, _%_, _≤_, _<_}
 use mathlib.Core.Path.{_≡_, refl, sym, ap, subst, _∙_}
 use mathlib.Core.Bool.{Bool, true}
 use mathlib.Core.List.{List}
@@ -23,6 +23,7 @@ use Rattle.registers.specs.Step.{isDue, one, left, afterSymbol}
 use Rattle.symbol.specs.declared.Sums.{Sums}
 use Rattle.symbol.specs.declared.Symbol.{Symbol}
 use Rattle.symbol.specs.Make.{symbolFrom}
+use Rattle.symbol.proofs.Clips.{symbol-twelve}
 use Rattle.state.specs.declared.Frontend.{Frontend}
 use Rattle.state.specs.Start.{ringPlaces}
 use Rattle.fixed.specs.Sample.{symbolOf, withSymbol}
@@ -197,6 +198,7 @@ module _ (c : tie.After-after-symbol2) where
   makes = record {
     on = subst (GoesOn (sheet b) (x b)) kept-is (with-symbol-on (b .pre .0) _ _ (b .pre .1));
     sample = ap (λ (z : Symbol). z .sample) made-is ∙ sample-is (b .args .p) _ _ (b .args .w .samples) (phase b) _;
+    few = subst (λ (z : Symbol). z .clips ≤ 12) (sym made-is) (symbol-twelve (b .args .p) _ _ (b .args .w .samples) (phase b) _);
     is = symbol-is;
     state = λ f stands.
         subst (λ (z : Kept). Stands (b .args .p .taps) z (withSymbol (sheet b) f)) kept-is

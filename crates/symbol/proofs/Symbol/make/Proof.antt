@@ -1,15 +1,22 @@
 -- `symbol::Symbol::make` meets its contract: each part of the symbol is what its call answers, of the same parts that the definition takes for it.
--- Nothing has to be known of the sheet, the gain or the sums.
-use Prim.Native.Nat.{_^_, _<_}
+-- Nothing has to be known of the sheet, the gain or the sums; the clips of six outputs are at most twelve, so their sum does not overflow.
+use Prim.Native.Nat.{ℕ, _+_, _^_, _≤_, _<_}
 use mathlib.Core.Path.{_≡_, ap, _∙_}
-use lib.IntN.{ℤ}
+use mathlib.Core.List.{List}
+use native.Mathlib.Omega.{arith}
+use lib.ListN.{getD}
+use lib.IntN.{ℤ, pos}
 use lib.Signed.{mag}
 use mir.Syntax.{w16, w32}
 use mir.Val.{toZ, ofZ}
 use borrow.Author.Needs.{needs}
 use Rattle.arith.proofs.Bits.{held}
 use Rattle.params.specs.declared.Params.{Params}
-use Rattle.symbol.specs.Make.{quantised, symbolFrom}
+use Rattle.symbol.specs.declared.Sums.{Sums}
+use Rattle.symbol.specs.declared.Symbol.{Symbol}
+use Rattle.symbol.specs.declared.make.Fitted.{Fitted}
+use Rattle.symbol.specs.Make.{outputOf, amplified, quantised, timingError, gainError, symbolFrom}
+use Rattle.symbol.proofs.Clips.{output-two, amplified-two}
 use Rattle.symbol.proofs.Symbol.make.Statement.{statement}
 use Rattle.symbol.proofs.Symbol.make.Tie as tie
 
@@ -52,39 +59,128 @@ timing-error-requires c κs = search needs
 agc-error-requires : tie.Need-agc-error-requires
 agc-error-requires c κs = search needs
 
+-- ---- the six outputs, and the clips of each
+
+module _ (c : tie.After-agc-error) where
+  abbrev after-zk : tie.After-amplify3
+  after-zk = c .before .before .before .before .before .before .before .before .before
+
+  abbrev after-dz : tie.After-amplify2
+  after-dz = after-zk .before
+
+  abbrev after-z : tie.After-amplify
+  after-z = after-dz .before
+
+  abbrev after-yk : tie.After-output-of3
+  after-yk = after-z .before .before .before .before
+
+  abbrev after-dy : tie.After-output-of2
+  after-dy = after-yk .before .before
+
+  abbrev after-y : tie.After-output-of
+  after-y = after-dy .before .before
+
+  record Few : Type 0 where
+    y : after-y .output-of .result .clips ≤ 2
+    dy : after-dy .output-of2 .result .clips ≤ 2
+    yk : after-yk .output-of3 .result .clips ≤ 2
+    z : after-z .amplify .result .clips ≤ 2
+    dz : after-dz .amplify2 .result .clips ≤ 2
+    zk : after-zk .amplify3 .result .clips ≤ 2
+
+  few : Few
+  few = record {
+    y = output-two _ (after-y .output-of .ensures);
+    dy = output-two _ (after-dy .output-of2 .ensures);
+    yk = output-two _ (after-yk .output-of3 .ensures);
+    z = amplified-two _ _ (after-z .amplify .ensures);
+    dz = amplified-two _ _ (after-dz .amplify2 .ensures);
+    zk = amplified-two _ _ (after-zk .amplify3 .ensures);
+  }
+
+add-t32 : tie.Need-add-t32
+add-t32 c = let f = few (c .before .before) in record { fits = omega (arith, f .y, f .dy) }
+
+add-t33 : tie.Need-add-t33
+add-t33 c = let f = few (c .before .before .before) in record { fits = omega (arith, f .y, f .dy, f .yk) }
+
+add-t34 : tie.Need-add-t34
+add-t34 c = let f = few (c .before .before .before .before) in record { fits = omega (arith, f .y, f .dy, f .yk, f .z) }
+
+add-t35 : tie.Need-add-t35
+add-t35 c = let f = few (c .before .before .before .before .before) in record { fits = omega (arith, f .y, f .dy, f .yk, f .z, f .dz) }
+
+add-t36 : tie.Need-add-t36
+add-t36 c = let f = few (c .before .before .before .before .before .before) in record { fits = omega (arith, f .y, f .dy, f .yk, f .z, f .dz, f .zk) }
+
+-- ---- the symbol
+
 -- a component of the symbol, by what the call tells
 component : (p : Params) (x : ℤ) {r : ℤ} → mag x < 2 ^ 15 → r ≡ quantised p (toZ w16 (ofZ w16 x)) → mag r < 2 ^ 15 → toZ w16 (ofZ w16 r) ≡ quantised p x
 component p x {r} f told g = held w16 r g ∙ told ∙ ap (quantised p) (held w16 x f)
 
-returns : tie.Need-returns
+-- all parts, each by what its call tells of those before it
+made : (p : Params) (gain period sample phase : ℕ) (sums : List Sums) {y dy yk z dz zk : Fitted} {i q e err : ℤ}
+    → let none : Sums = record { i = pos 0; q = pos 0 } in
+    y ≡ outputOf (getD sums 0 none) → dy ≡ outputOf (getD sums 1 none) → yk ≡ outputOf (getD sums 2 none)
+    → z ≡ amplified gain (y .output) → dz ≡ amplified gain (dy .output) → zk ≡ amplified gain (yk .output)
+    → i ≡ quantised p (zk .output .i) → q ≡ quantised p (zk .output .q) → e ≡ timingError p (z .output) (dz .output) → err ≡ gainError p (zk .output)
+    → _≡_ {A = Symbol} (record {
+      sample = sample;
+      phase = phase;
+      y = y .output;
+      dy = dy .output;
+      yk = yk .output;
+      gain = gain;
+      period = period;
+      z = z .output;
+      dz = dz .output;
+      zk = zk .output;
+      q = record { i = i; q = q };
+      e = e;
+      err = err;
+      clips = y .clips + dy .clips + yk .clips + z .clips + dz .clips + zk .clips;
+    }) (symbolFrom p gain period sample phase sums)
 unfolding symbolFrom
+made p gain period sample phase sums y dy yk z dz zk i q e err =
+    let z′ = z ∙ ap (λ (x : Fitted). amplified gain (x .output)) y in
+    let dz′ = dz ∙ ap (λ (x : Fitted). amplified gain (x .output)) dy in
+    let zk′ = zk ∙ ap (λ (x : Fitted). amplified gain (x .output)) yk in
+    let i′ = i ∙ ap (λ (x : Fitted). quantised p (x .output .i)) zk′ in
+    let q′ = q ∙ ap (λ (x : Fitted). quantised p (x .output .q)) zk′ in
+    let e′ = e ∙ (λ t. timingError p (z′ t .output) (dz′ t .output)) in
+    let err′ = err ∙ ap (λ (x : Fitted). gainError p (x .output)) zk′ in
+    λ t. record {
+      sample = sample;
+      phase = phase;
+      y = y t .output;
+      dy = dy t .output;
+      yk = yk t .output;
+      gain = gain;
+      period = period;
+      z = z′ t .output;
+      dz = dz′ t .output;
+      zk = zk′ t .output;
+      q = record { i = i′ t; q = q′ t };
+      e = e′ t;
+      err = err′ t;
+      clips = y t .clips + dy t .clips + yk t .clips + z′ t .clips + dz′ t .clips + zk′ t .clips;
+    }
+
+returns : tie.Need-returns
 returns c =
-    let t = c .before in
-    let b = t .before in
-    let a = b .before .before in
-    let zk = a .before .before in
-    let dz = zk .before in
-    let z = dz .before in
-    let yk = z .before in
-    let dy = yk .before .before in
-    let y = dy .before .before in
-    let g = y .before in
-    let qi = component (g .before .args .p) (zk .amplify3 .result .i) (search (a .before .struct-told .given)) (a .quantise .ensures) (a .quantise .ok) in
-    let qq = component (g .before .args .p) (zk .amplify3 .result .q) (search (b .before .struct-told2 .given)) (b .quantise2 .ensures) (b .quantise2 .ok) in
-    let e = held w32 (t .timing-error .result) (t .timing-error .ok) ∙ t .timing-error .ensures in
-    let err = held w32 (c .agc-error .result) (c .agc-error .ok) ∙ c .agc-error .ensures in
-    simp (
-      qi,
-      qq,
-      e,
-      err,
-      zk .amplify3 .ensures,
-      dz .amplify2 .ensures,
-      z .amplify .ensures,
-      yk .output-of3 .ensures,
-      dy .output-of2 .ensures,
-      y .output-of .ensures,
-    )
+    let err = c .before .before .before .before .before .before in
+    let e = err .before in
+    let qq = e .before in
+    let qi = qq .before .before in
+    let a = after-y err .before .before .args in
+    let zk = after-zk err .amplify3 .result .output in
+    made (a .p) (a .gain) (a .period) (a .sample) (a .phase) _ (after-y err .output-of .ensures) (after-dy err .output-of2 .ensures)
+    (after-yk err .output-of3 .ensures) (after-z err .amplify .ensures) (after-dz err .amplify2 .ensures) (after-zk err .amplify3 .ensures)
+    (component (a .p) (zk .i) (search (qi .before .struct-told .given)) (qi .quantise .ensures) (qi .quantise .ok))
+    (component (a .p) (zk .q) (search (qq .before .struct-told2 .given)) (qq .quantise2 .ensures) (qq .quantise2 .ok))
+    (held w32 (e .timing-error .result) (e .timing-error .ok) ∙ e .timing-error .ensures)
+    (held w32 (err .agc-error .result) (err .agc-error .ok) ∙ err .agc-error .ensures)
 
 pub make-spec : {M : Type 1} → statement M
 make-spec =
@@ -103,4 +199,9 @@ make-spec =
     quantise-requires-2
     timing-error-requires
     agc-error-requires
+    add-t32
+    add-t33
+    add-t34
+    add-t35
+    add-t36
     returns)

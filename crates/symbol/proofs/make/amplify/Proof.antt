@@ -1,38 +1,56 @@
--- `symbol::make::amplify` meets its contract: each component is the one that its call answers, and 16 bits hold it.
+-- `symbol::make::amplify` meets its contract: what is fitted is R of the two products, which `round_product` takes whole.
+-- A gain of 16 bits unsigned is a number of 32 bits signed.
 use mathlib.Core.Path.{_≡_, ap, _∙_}
+use native.Mathlib.Omega.{arith}
 use lib.IntN.{ℤ, pos, _*ℤ_}
-use mir.Syntax.{w16}
-use mir.Val.{SFits, toZ, ofZ}
-use mir.Facts.{toZ-ofZ}
+use mir.Syntax.{w16, w32, w64}
+use mir.Val.{toZ}
+use mir.Facts.{toZ-pos}
 use borrow.Author.Needs.{needs}
-use Rattle.arith.specs.Arith.{roundShift, sat16Z}
+use Rattle.arith.specs.Arith.{roundShift}
 use Rattle.arith.proofs.Bits.{held}
+use Rattle.symbol.specs.Make.{fitted, amplified}
 use Rattle.symbol.proofs.make.amplify.Statement.{statement}
 use Rattle.symbol.proofs.make.amplify.Tie as tie
 
-i-fits : (c : tie.After-struct-told) → SFits w16 (c .before .args .x .i)
-i-fits c = record { sfits = search (c .struct-told .given) }
+cast-round-product : tie.Need-cast-round-product
+cast-round-product c = search needs
 
-q-fits : (c : tie.After-struct-told2) → SFits w16 (c .before .before .before .args .x .q)
-q-fits c = record { sfits = search (c .struct-told2 .given) }
+round-product-requires : tie.Need-round-product-requires
+round-product-requires c κs = search needs
 
-times-requires : tie.Need-times-requires
-times-requires c κs = search needs
+cast-round-product-2 : tie.Need-cast-round-product-2
+cast-round-product-2 c = search needs
 
-times-requires-2 : tie.Need-times-requires-2
-times-requires-2 c κs = search needs
+round-product-requires-2 : tie.Need-round-product-requires-2
+round-product-requires-2 c κs = search needs
+
+fit-requires : tie.Need-fit-requires
+fit-requires c κs = search needs
+
+gain-is : (s : tie.Start) → toZ w32 (s .args .gain) ≡ pos (s .args .gain)
+gain-is s = toZ-pos w32 {n = s .args .gain} (omega (arith, s .fits .gain .fits))
 
 returns : tie.Need-returns
+unfolding amplified
 returns c =
-    let b = c .before .before in
+    let b = c .before in
     let a = b .before .before in
-    let i : toZ w16 (ofZ w16 (b .times .result)) ≡ sat16Z (roundShift (a .args .x .i *ℤ pos (a .args .gain)) 10) =
-    held w16 (b .times .result) (b .times .ok) ∙ b .times .ensures
-    ∙ ap (λ (z : ℤ). sat16Z (roundShift (z *ℤ pos (a .args .gain)) 10)) (toZ-ofZ (i-fits (b .before))) in
-    let q : toZ w16 (ofZ w16 (c .times2 .result)) ≡ sat16Z (roundShift (a .args .x .q *ℤ pos (a .args .gain)) 10) =
-    held w16 (c .times2 .result) (c .times2 .ok) ∙ c .times2 .ensures
-    ∙ ap (λ (z : ℤ). sat16Z (roundShift (z *ℤ pos (a .args .gain)) 10)) (toZ-ofZ (q-fits (c .before))) in
-    λ t. record { i = i t; q = q t }
+    let s = a .before .before in
+    let gain = gain-is s in
+    let x = held w16 (s .args .x .i) (search (a .before .struct-told .given)) in
+    let y = held w16 (s .args .x .q) (search (b .before .struct-told2 .given)) in
+    let i = held w64 (a .round-product .result) (a .round-product .ok) ∙ a .round-product .ensures ∙ (λ t. roundShift (x t *ℤ gain t) 10) in
+    let q = held w64 (b .round-product2 .result) (b .round-product2 .ok) ∙ b .round-product2 .ensures ∙ (λ t. roundShift (y t *ℤ gain t) 10) in
+    c .fit .ensures ∙ (λ t. fitted (i t) (q t))
 
 pub amplify-spec : {M : Type 1} → statement M
-amplify-spec = tie.close (tie.spec times-requires times-requires-2 returns)
+amplify-spec =
+    tie.close
+    (tie.spec
+    cast-round-product
+    round-product-requires
+    cast-round-product-2
+    round-product-requires-2
+    fit-requires
+    returns)

@@ -1,0 +1,2 @@
+-- The laws that the proofs of the functions cite; those on clips serve the block too.
+pub mod Clips
