@@ -9,4 +9,5 @@ pub mod Nearest
 pub mod Modulus
 pub mod Widths
 pub mod Tested
+pub mod Held
 pub mod Both

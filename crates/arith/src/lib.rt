@@ -2,10 +2,11 @@
 //
 // Every function here is total. It answers for each input what its definition over ℤ says (specs/Arith.antt), and no caller owes it anything.
 ghost use mathlib.Core.Path.{_≡_};
+ghost use mathlib.Core.Bool.{not};
 ghost use Prim.Native.Nat.{_^_, min};
 ghost use lib.IntN.{_*ℤ_};
 ghost use lib.Signed.{shrZ};
-ghost use Rattle.arith.specs.Arith.{roundShift, clampZ, saturatedTo, modZ, wrapI32, nearestAway, orZero, narrowI16, narrowI32};
+ghost use Rattle.arith.specs.Arith.{roundShift, clampZ, sat16Changes, saturatedTo, modZ, wrapI32, nearestAway, orZero, narrowI16, narrowI32};
 
 // round(v / 2^s), a half upward; v for s = 0. The last bit that is shifted out decides, so it is
 // enough to look at v a place before: that number less its half, which cannot overflow.
@@ -82,6 +83,19 @@ pub fn least(a: usize, b: usize) -> usize
 pub struct Saturated {
     pub value: i16,
     pub changed: bool,
+}
+
+// Whether 16 bits hold v, so that sat16 leaves it as it is.
+pub fn fits_i16(v: i64) -> bool
+    ensures { λ r. ⌜ r ≡ not (sat16Changes v) ⌝ }
+{
+    if v < -32768 {
+        return false;
+    }
+    if 32767 < v {
+        return false;
+    }
+    true
 }
 
 // Saturate to 16 bits, and say whether that has changed the number.

@@ -13,8 +13,8 @@ struct Fitted {
     clips: u8,
 }
 
-// Both components within 16 bits.
-fn fit(i: i64, q: i64) -> Fitted
+// Both components held to 16 bits, and counted where that changes them.
+fn clip(i: i64, q: i64) -> Fitted
     ensures { λ r. ⌜ r ≡ fitted i q ⌝ }
 {
     let a = arith::sat16(i);
@@ -26,6 +26,22 @@ fn fit(i: i64, q: i64) -> Fitted
         },
         clips: a.changed as u8 + b.changed as u8,
     }
+}
+
+// The same, by a short way for components that 16 bits hold, as those of most signals are.
+fn fit(i: i64, q: i64) -> Fitted
+    ensures { λ r. ⌜ r ≡ fitted i q ⌝ }
+{
+    if arith::fits_i16(i) && arith::fits_i16(q) {
+        return Fitted {
+            output: Output {
+                i: i as i16,
+                q: q as i16,
+            },
+            clips: 0,
+        };
+    }
+    clip(i, q)
 }
 
 // A filter's sums as an output.

@@ -2,16 +2,14 @@
 -- and the bits of two numbers differ where the numbers do.
 use mathlib.Core.Path.{_≡_, ap, _∙_}
 use mathlib.Core.Bool.{_||_}
-use lib.Dec.{lit≤}
-use native.Mathlib.Omega.{arith}
-use lib.IntN.{ℤ, pos, negsuc}
+use lib.IntN.{ℤ}
 use lib.Signed.{ltZ}
 use mir.Syntax.{w16, w64}
 use mir.Val.{SFits}
 use mir.Facts.{toZ-ofZ, sfits-widen}
 use borrow.Author.Needs.{needs}
 use Rattle.arith.specs.Arith.{sat16Z, sat16Changes}
-use Rattle.arith.proofs.Magnitude.{clamp-mag}
+use Rattle.arith.proofs.Held.{sat16-fits}
 use Rattle.arith.proofs.Tested.{differ}
 use Rattle.arith.proofs.Widths.{narrows, narrowed}
 use Rattle.arith.proofs.sat16.Statement.{statement}
@@ -25,8 +23,7 @@ unfolding sat16Z
 is c = simp (toZ-ofZ (c .before .fits .v)) at (c .clamp .ensures)
 
 fits : (c : tie.After-clamp) → SFits w16 (c .clamp .result)
-unfolding sat16Z
-fits c = rw (is c) (record { sfits = omega (arith, clamp-mag (c .before .args .v) (negsuc 32767) (pos 32767) 32767 (lit≤ tt) (lit≤ tt)) })
+fits c = rw (is c) (sat16-fits (c .before .args .v))
 
 cast-t3 : tie.Need-cast-t3
 cast-t3 c = narrows tt (fits c)

@@ -1,70 +1,74 @@
--- `symbol::make::fit` meets its contract: each component is what its call answers, and so is whether it was clipped.
--- Two of them are at most two, which 8 bits hold.
-use Prim.Native.Nat.{ℕ, _+_, _≤_}
-use mathlib.Core.Path.{_≡_, refl, ap, _∙_}
-use mathlib.Core.Bool.{Bool, true, false, cond}
-use native.Mathlib.Omega.{arith}
+-- `symbol::make::fit` meets its contract: what 16 bits hold is left as it is and counts for nothing (arith, Held), so the short way answers the same.
+use Prim.Native.Nat.{_+_}
+use mathlib.Core.Path.{_≡_, refl, sym, ap, subst, _∙_}
+use mathlib.Core.Bool.{Bool, true, false, not, cond, true≢false}
 use lib.IntN.{ℤ}
 use mir.Syntax.{w16}
-use mir.Val.{boolByte}
+use mir.Val.{SFits}
 use mir.Facts.{toZ-ofZ}
 use borrow.Author.Needs.{needs}
-use Rattle.arith.specs.declared.Saturated.{Saturated}
-use Rattle.arith.specs.Arith.{saturatedTo}
-use Rattle.arith.proofs.Bits.{held}
+use Rattle.arith.specs.Arith.{sat16Changes}
+use Rattle.arith.proofs.Held.{sat16-fits, unchanged}
+use Rattle.arith.proofs.Widths.{narrows, narrowed}
+use Rattle.symbol.specs.Make.{fitted}
 use Rattle.symbol.proofs.make.fit.Statement.{statement}
 use Rattle.symbol.proofs.make.fit.Tie as tie
 
-sat16-requires : tie.Need-sat16-requires
-sat16-requires c κs = search needs
+fits-i16-requires : tie.Need-fits-i16-requires
+fits-i16-requires c κs = search needs
 
-sat16-requires-2 : tie.Need-sat16-requires-2
-sat16-requires-2 c κs = search needs
+fits-i16-requires-2 : tie.Need-fits-i16-requires-2
+fits-i16-requires-2 c κs = search needs
 
--- a flag as a number
-one-or-none : (b : Bool) → boolByte b ≤ 1
-one-or-none true = omega arith
-one-or-none false = omega arith
+-- what the two tests say where both hold
+holds : {r : Bool} {z v : ℤ} → r ≡ not (sat16Changes z) → z ≡ v → r ≡ true → sat16Changes v ≡ false
+holds {r} {z} {v} told e passed = go (sat16Changes v) refl
+  where
+    go : (b : Bool) → sat16Changes v ≡ b → sat16Changes v ≡ false
+    go true k = absurd (true≢false (sym passed ∙ told ∙ ap (λ (x : ℤ). not (sat16Changes x)) e ∙ ap not k))
+    go false k = k
 
-counts : (b : Bool) → boolByte b ≡ cond b 1 0
-counts true = refl
-counts false = refl
+module _ (c : tie.Then2) where
+  abbrev second : tie.After-fits-i162
+  second = c .before
+
+  abbrev first : tie.After-fits-i16
+  first = second .before .before
+
+  abbrev start : tie.Start
+  start = first .before
+
+  i-holds : sat16Changes (start .args .i) ≡ false
+  i-holds = holds (first .fits-i16 .ensures) (toZ-ofZ (start .fits .i)) (second .before .if1 .taken)
+
+  q-holds : sat16Changes (start .args .q) ≡ false
+  q-holds = holds (second .fits-i162 .ensures) (toZ-ofZ (start .fits .q)) (c .if2 .taken)
+
+  i-fits : SFits w16 (start .args .i)
+  i-fits = subst (SFits w16) (unchanged (start .args .i) i-holds) (sat16-fits (start .args .i))
+
+  q-fits : SFits w16 (start .args .q)
+  q-fits = subst (SFits w16) (unchanged (start .args .q) q-holds) (sat16-fits (start .args .q))
+
+cast-t5 : tie.Need-cast-t5
+cast-t5 c = narrows tt (i-fits c)
 
 cast-t6 : tie.Need-cast-t6
-cast-t6 c = search needs
-
-cast-t7 : tie.Need-cast-t7
-cast-t7 c = search needs
-
-add-t8 : tie.Need-add-t8
-add-t8 c =
-    let b = c .before .before .before .before in
-    let a = b .before in
-    record { fits = omega (arith, one-or-none (a .sat16 .result .changed), one-or-none (b .sat162 .result .changed)) }
-
--- what is told of the two numbers as they were given
-module _ (c : tie.After-struct-known2) where
-  abbrev second : tie.After-sat162
-  second = c .before .before .before .before
-
-  abbrev first : tie.After-sat16
-  first = second .before
-
-  first-is : first .sat16 .result ≡ saturatedTo (first .before .args .i)
-  first-is = first .sat16 .ensures ∙ ap (λ (z : ℤ). saturatedTo z) (toZ-ofZ (first .before .fits .i))
-
-  second-is : second .sat162 .result ≡ saturatedTo (first .before .args .q)
-  second-is = second .sat162 .ensures ∙ ap (λ (z : ℤ). saturatedTo z) (toZ-ofZ (first .before .fits .q))
+cast-t6 c = narrows tt (q-fits c)
 
 returns : tie.Need-returns
 returns c =
-    let a = first-is c in
-    let b = second-is c in
-    let i = held w16 (first c .sat16 .result .value) (search (c .before .before .before .struct-told .given)) ∙ ap (λ (r : Saturated). r .value) a in
-    let q = held w16 (second c .sat162 .result .value) (search (c .before .before .struct-told2 .given)) ∙ ap (λ (r : Saturated). r .value) b in
-    let m = counts (first c .sat16 .result .changed) ∙ ap (λ (r : Saturated). cond (r .changed) 1 0) a in
-    let n = counts (second c .sat162 .result .changed) ∙ ap (λ (r : Saturated). cond (r .changed) 1 0) b in
-    λ t. record { output = record { i = i t; q = q t }; clips = m t + n t }
+    let i = narrowed tt (i-fits c) ∙ sym (unchanged (start c .args .i) (i-holds c)) in
+    let q = narrowed tt (q-fits c) ∙ sym (unchanged (start c .args .q) (q-holds c)) in
+    λ t. record { output = record { i = i t; q = q t }; clips = cond (sym (i-holds c) t) 1 0 + cond (sym (q-holds c) t) 1 0 }
+
+clip-requires : tie.Need-clip-requires
+clip-requires c κs = search needs
+
+returns-2 : tie.Need-returns-2
+returns-2 c = let f = c .before .before .before .fits in c .clip .ensures ∙ (λ t. fitted (toZ-ofZ (f .i) t) (toZ-ofZ (f .q) t))
 
 pub fit-spec : {M : Type 1} → statement M
-fit-spec = tie.close (tie.spec sat16-requires sat16-requires-2 cast-t6 cast-t7 add-t8 returns)
+fit-spec =
+    tie.close
+    (tie.spec fits-i16-requires fits-i16-requires-2 cast-t5 cast-t6 returns clip-requires returns-2)
