@@ -1,7 +1,7 @@
 -- Tests as the code makes them: an `&&` by its two arms, the size of a number that was tested against two ends, and whether two numbers are the same.
 -- The code makes the next test only where those so far hold, which is what `_&&_` says of Booleans; and it compares bits, which only a number's own are.
 use Prim.Native.Nat.{_+_, _≤_, _<_}
-use mathlib.Core.Path.{_≡_, refl, sym, ap, subst, _∙_}
+use mathlib.Core.Path.{_≡_, refl, sym, ap, _∙_}
 use mathlib.Core.Logic.{_⊎_, ⊎-elim}
 use mathlib.Core.Bool.{Bool, true, false, not, _&&_, _||_}
 use native.Mathlib.Omega.{arith}

@@ -163,7 +163,7 @@ pub record Left (b : Block) (places : ℕ) : Type 0 where
   pub placed : hasPlaces (b .state) ≡ true
   pub taken : b .taken ≤ 9223372036854775807
   pub counted : b .count ≤ 9223372036854775807
-  pub roomy : 20 * b .count ≤ places
+  pub written : 20 * b .count ≤ places
 
 module _ (s : Sheet) (f : Frontend) (values out : List ℤ) where
   -- a number other than 0: nothing was written
@@ -191,5 +191,5 @@ module _ (s : Sheet) (f : Frontend) (values out : List ℤ) where
         });
         taken = omega (arith, g .sizes .few);
         counted = omega (arith, few s f xs, long, g .sizes .few);
-        roomy = omega (arith, few s f xs, long);
+        written = omega (arith, few s f xs, long);
       })

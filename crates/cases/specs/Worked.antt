@@ -1,11 +1,11 @@
 -- The worked cases as one claim.
--- (RULES 9, P1 to P10, in their order.)
+-- (RULES 9: P1 to P10 in their order, then clips.)
 use Prim.Native.Nat.{ℕ, zero, suc}
 use mathlib.Core.Path.{_≡_}
-use mathlib.Core.Bool.{cond}
+use mathlib.Core.Bool.{true, false, cond}
 use mathlib.Core.List.{List, [], _∷_}
-use lib.IntN.{pos, negsuc}
-use Rattle.arith.specs.Arith.{roundShift}
+use lib.IntN.{ℤ, pos, negsuc}
+use Rattle.arith.specs.Arith.{roundShift, sat16Changes}
 use Rattle.params.specs.declared.Params.{Params}
 use Rattle.params.specs.Refusal.{refusal, nothing}
 use Rattle.params.specs.Banks.{detectorPlace}
@@ -14,7 +14,8 @@ use Rattle.offset.specs.Offset.{offsetOf}
 use Rattle.design.specs.Refusal.{accepted}
 use Rattle.design.specs.Design.{designOf}
 use Rattle.fixed.specs.Mix.{mixed}
-use Rattle.symbol.specs.Make.{quantised, gainError}
+use Rattle.symbol.specs.declared.Sums.{Sums}
+use Rattle.symbol.specs.Make.{quantised, gainError, symbolFrom}
 use Rattle.cases.specs.Sheet.{paramsWith, plainSheet, sheet, firstOfK}
 use Rattle.cases.specs.Rates.{twoSamples, registersWith}
 
@@ -45,6 +46,12 @@ narrow = record {
   «block_log2» = 0;
   delay = 24;
 }
+
+-- The clips of a symbol at this gain, with these sums of h and as many of k, and none of g.
+abbrev pub clipsWith : ℕ → ℤ → ℤ → ℕ
+clipsWith gain i q =
+    let sums : Sums = record { i = i; q = q } in
+    symbolFrom narrow gain 0 0 0 (sums ∷ record { i = pos 0; q = pos 0 } ∷ sums ∷ []) .clips
 
 pub record Worked : Type 0 where
   -- P1
@@ -77,3 +84,14 @@ pub record Worked : Type 0 where
   pub registers-at-two : designOf twoSamples ≡ accepted (registersWith 33554432 32883343 34225520 335544)
   -- P10
   pub error-wraps : gainError narrow (record { i = pos 0; q = pos 0 }) ≡ negsuc 2147483647
+  -- the ends of 16 bits, and what is next to them
+  pub upper-stays : sat16Changes (pos 32767) ≡ false
+  pub lower-stays : sat16Changes (negsuc 32767) ≡ false
+  pub above-changed : sat16Changes (pos 32768) ≡ true
+  pub below-changed : sat16Changes (negsuc 32768) ≡ true
+  -- y just at both ends; half of one more, which is rounded up above and below zero; y clipped, and z of what is left of it not; z alone; all eight
+  pub none-clipped : clipsWith 1024 (pos 536854528) (negsuc 536870911) ≡ 0
+  pub halves-clipped : clipsWith 1024 (pos 536862720) (negsuc 536879103) ≡ 2
+  pub y-clipped : clipsWith 1024 (pos 536870912) (pos 0) ≡ 2
+  pub z-clipped : clipsWith 1025 (pos 536854528) (pos 0) ≡ 2
+  pub all-clipped : clipsWith 1025 (pos 1073741824) (negsuc 1073741823) ≡ 8

@@ -1,4 +1,5 @@
--- The laws that the proofs of the functions cite, by subject; those on runs, clips, states and refusals serve the theorem on lists of block calls too (crates/timing).
+-- The laws that the proofs of the functions cite, by subject; those on runs, clips, states and refusals serve the theorem on lists of block calls too
+-- (crates/timing).
 pub mod Runs
 pub mod Clips
 pub mod Refused

@@ -190,7 +190,7 @@ module _ (s : Sheet) (values : List ℤ) (out₀ : List ℤ) (x₀ : Kept) where
           at = omega (arith, turn .pushes .on .samples, t .at);
           most = omega arith;
           few = subst (λ (put : Outcome). put .count ≤ n + 1) (sym is) (omega (arith, emitted-few made symbol count out, t .few));
-          few-clips = omega (arith, t .few-clips, adds, added-few made symbol (turn .pushes .few));
+          few-clips = omega (arith, t .few-clips, adds, added-few made symbol (turn .pushes .few-clips));
           long = same ∙ t .long;
           output = λ f first.
               subst (λ (ys : List Symbol). Output ys out₀ out′ count′) (all f first)

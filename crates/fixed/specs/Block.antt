@@ -43,7 +43,7 @@ pub record Block : Type 0 where
   pub output : List ℤ
 
 -- Accepted: the first samples, as many as the block takes with this output, are all that it is made of. What it leaves is the state after them, and their
--- symbols from the first output place on. The other places stay as they were.
+-- symbols from the first output place on, which it counts with their clips. The other places stay as they were.
 unfoldable pub accepted : Sheet → Frontend → List ℤ → List ℤ → Block
 accepted s f values out =
     let n : ℕ = pairsTaken (length values) (length out) in

@@ -140,7 +140,7 @@ pub record GoesOn (s : Sheet) (x y : Kept) : Type 0 where
 pub record MakesSymbol (s : Sheet) (x y : Kept) (symbol : Symbol) : Type 0 where
   pub on : GoesOn s x y
   pub sample : symbol .sample ≡ x .position .samples
-  pub few : symbol .clips ≤ 12
+  pub few-clips : symbol .clips ≤ 12
   pub is : (f : Frontend) → Stands (s .params .taps) x f → symbol ≡ symbolOf s f
   pub state : (f : Frontend) → Stands (s .params .taps) x f → Stands (s .params .taps) y (withSymbol s f)
 
@@ -148,7 +148,7 @@ pub record MakesSymbol (s : Sheet) (x y : Kept) (symbol : Symbol) : Type 0 where
 pub record Pushes (s : Sheet) (x y : Kept) (pair : Pair) (made : Bool) (symbol : Symbol) : Type 0 where
   pub on : GoesOn s x y
   pub sample : made ≡ true → symbol .sample ≡ x .position .samples
-  pub few : made ≡ true → symbol .clips ≤ 12
+  pub few-clips : made ≡ true → symbol .clips ≤ 12
   pub makes : (f : Frontend) → Stands (s .params .taps) x f → madeBy s f pair ≡ cond made (symbol ∷ []) []
   pub state : (f : Frontend) → Stands (s .params .taps) x f → Stands (s .params .taps) y (next s f pair)
 

@@ -16,10 +16,10 @@
 //     b. Filters (filter.rt), over the line newest first, row `phase` of h, g and k:
 //          three sums each for I and Q                                        64 bits
 //     c. Symbol (crates/symbol):
-//          y, dy, yk = R(sum, 14)                                             16 bits, clipped; how often, is counted
+//          y, dy, yk = R(sum, 14)                                             16 bits, clipped, and counted where it is
 //          z, dz, zk = R(y gain, 10) and so on, gain = acc >> 8               likewise
-//          q = R(zk, q_shift)                                                 `bits` bits, clipped
-//          e = (z_i dz_i + z_q dz_q) >> ted_shift                             24 bits, clipped
+//          q = R(zk, q_shift)                                                 `bits` bits, clamped
+//          e = (z_i dz_i + z_q dz_q) >> ted_shift                             24 bits, clamped
 //          err = agc_target - ((zk_i^2 + zk_q^2) >> 12)                       32 bits, wrapped
 //     d. e and err wait (queue.rt); t = t + period.
 //     Then, with a symbol or without, t = t - 2^24, and one more sample is counted.

@@ -1,5 +1,6 @@
--- How many clips there can be: one for each number that is held to 16 bits, and so two in an output and twelve in a symbol.
-use Prim.Native.Nat.{ℕ, _+_, _≤_}
+-- How many clips there can be: one for each number that is held to 16 bits. An output has two of these, and a symbol has six outputs, three of them the
+-- others times the gain: so there are twelve at most.
+use Prim.Native.Nat.{ℕ, _≤_}
 use mathlib.Core.Path.{_≡_, refl, sym, subst}
 use mathlib.Core.Bool.{Bool, true, false, cond}
 use mathlib.Core.List.{List}

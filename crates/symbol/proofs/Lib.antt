@@ -1,2 +1,2 @@
--- The laws that the proofs of the functions cite; those on clips serve the block too.
+-- The laws on clips, which the proof of `Symbol::make` cites and those of the block do.
 pub mod Clips

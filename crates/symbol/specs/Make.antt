@@ -14,12 +14,12 @@ use Rattle.symbol.specs.declared.Symbol.{Symbol}
 use Rattle.symbol.specs.declared.make.Fitted.{Fitted}
 
 -- One for a number that 16 bits do not hold, so that it is clipped.
-abbrev pub clip : ℤ → ℕ
-clip v = cond (sat16Changes v) 1 0
+abbrev clipOf : ℤ → ℕ
+clipOf v = cond (sat16Changes v) 1 0
 
 -- Two numbers as an output, each within 16 bits, and how many of the two were clipped.
 abbrev pub fitted : ℤ → ℤ → Fitted
-fitted i q = record { output = record { i = sat16Z i; q = sat16Z q }; clips = clip i + clip q }
+fitted i q = record { output = record { i = sat16Z i; q = sat16Z q }; clips = clipOf i + clipOf q }
 
 -- A filter's sums as an output: without their 14 fractional bits, within 16 bits.
 unfoldable pub outputOf : Sums → Fitted
@@ -42,7 +42,7 @@ unfoldable pub gainError : Params → Output → ℤ
 gainError p zk = wrapI32 (pos (p .«agc_target») -ℤ shrZ (zk .i *ℤ zk .i +ℤ zk .q *ℤ zk .q) 4096)
 
 -- The symbol: the gain and the period in force, the samples before its own, its phase, and the sums of h, g and k, from which y, dy and yk come. Its clips are
--- those of the three outputs, and those of the three times the gain; what narrows q and e counts for nothing.
+-- those of the three outputs, and those of the three times the gain; what clamps q and e counts for nothing.
 unfoldable pub symbolFrom : Params → ℕ → ℕ → ℕ → ℕ → List Sums → Symbol
 symbolFrom p gain period sample phase sums =
     let none : Sums = record { i = pos 0; q = pos 0 } in

@@ -119,6 +119,7 @@ StatesGoOn =
 -- ---- how many clips there can be
 
 -- A call counts twelve at most for each symbol that it wrote, whatever the sheet and the state.
+-- (RULES 4.2)
 abbrev pub ClipsFew : Type 0
 ClipsFew = (s : Sheet) (f : Frontend) (c : Call) → answer s f c .clips ≤ 12 * answer s f c .count
 

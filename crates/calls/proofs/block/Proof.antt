@@ -1,5 +1,5 @@
 -- `calls::block` meets its contract: it refuses in the definition's order, and then has touched nothing. Where nothing is refused, the block's state has
--- places again (Answers, `left`); its symbols and its pairs can be counted, and its clips are fewer than the places of its output.
+-- places again (Answers, `left`); its symbols and its pairs can be counted, and its clips are no more than the places of its output.
 use Prim.Native.Nat.{ℕ, _≤_}
 use mathlib.Core.Path.{_≡_, refl, sym, ap, subst, _∙_}
 use mathlib.Core.Bool.{true, cond}
@@ -21,7 +21,7 @@ use Rattle.params.specs.Judge.{Sheet, sheetOf}
 use Rattle.state.specs.declared.Frontend.{Frontend}
 use Rattle.fixed.specs.Block.{Block, blockOf, processed}
 use Rattle.fixed.proofs.Refused.{number-first}
-use Rattle.fixed.proofs.Clips.{block-few}
+use Rattle.fixed.proofs.Clips.{block-clips}
 use Rattle.places.specs.Sheet.{sheetNumber}
 use Rattle.kinds.specs.Answer.{Answer, firstNumber}
 use Rattle.places.specs.States.{stateFits, stateOf, numbersOf, hasPlaces, stateWritten}
@@ -54,7 +54,8 @@ module _ (l h g k state values out answer : List ℤ) where
   unfolding blockAnswer
   refuses h e o = rw (ne-eqb number 0 (λ z. h (e ∙ z))) (λ i. record { number = e i; state = state; output = o i; answer = answer })
 
-  writes : {s o w : List ℤ} → 0 ≡ number → s ≡ numbersOf (block .state) → o ≡ block .output → w ≡ pos (block .count) ∷ pos (block .taken) ∷ pos (block .clips) ∷ drop 3 answer
+  writes : {s o w : List ℤ} → 0 ≡ number → s ≡ numbersOf (block .state) → o ≡ block .output
+      → w ≡ pos (block .count) ∷ pos (block .taken) ∷ pos (block .clips) ∷ drop 3 answer
       → _≡_ {A = BlockAnswer} (record { number = 0; state = s; output = o; answer = w }) (blockAnswer l h g k state values out answer)
   unfolding blockAnswer
   writes e s o w = rw (eq-eqb number 0 (sym e)) (λ i. record { number = 0; state = s i; output = o i; answer = w i })
@@ -233,9 +234,9 @@ module _ (c : tie.Else3) where
   clipped : running .process .result .clips ≤ 9223372036854775807
   clipped =
       let a = start from .args in
-      let few = block-few (asked from) (stateOf (places from)) (a .values .now) (a .out .now) in
+      let few = block-clips (asked from) (stateOf (places from)) (a .values .now) (a .out .now) in
       subst (λ (n : ℕ). n ≤ 9223372036854775807) (ap (λ (b : Block). b .clips) (sym done))
-      (omega (arith, few, leaves .roomy, start from .good .1 .1 .1 .1 .1 .1 .0 .1))
+      (omega (arith, few, leaves .written, start from .good .1 .1 .1 .1 .1 .1 .0 .1))
 
 write-state-requires : tie.Need-write-state-requires
 write-state-requires c κs = search needs

@@ -136,7 +136,7 @@ pushed c = c .before .before .before .before .before .before .before .before .be
 added : (c : tie.After-clips-of Inv-loop μ-loop) → c .clips-of .result ≤ 12
 added c =
     let p = pushed c .push in
-    subst (λ (n : ℕ). n ≤ 12) (sym (c .clips-of .ensures)) (added-few (p .result .made) (p .result .symbol) (p .ensures .few))
+    subst (λ (n : ℕ). n ≤ 12) (sym (c .clips-of .ensures)) (added-few (p .result .made) (p .result .symbol) (p .ensures .few-clips))
 
 add-clips : tie.Need-add-clips Inv-loop μ-loop
 add-clips c =

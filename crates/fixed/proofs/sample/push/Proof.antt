@@ -199,7 +199,7 @@ returns c =
     record {
       on = record { good = makes .on .good; samples = makes .on .samples };
       sample = λ m. makes .sample;
-      few = λ m. makes .few;
+      few-clips = λ m. makes .few-clips;
       makes = λ f stands.
           made-with (sheet (b d)) f (pair (b d)) (w .with-symbol .result .made) (w .with-symbol .result .symbol) (falls-is d f true stands test) made
           (makes .is (joined (sheet (b d)) f (pair (b d))) (stands-now d f stands));
@@ -233,7 +233,7 @@ returns-2 c =
     record {
       on = record { good = on .good; samples = on .samples };
       sample = λ made. absurd (true≢false (sym made ∙ e .1 .1));
-      few = λ made. absurd (true≢false (sym made ∙ e .1 .1));
+      few-clips = λ made. absurd (true≢false (sym made ∙ e .1 .1));
       makes = λ f stands. made-without (sheet (b d)) f (pair (b d)) (out .made) (out .symbol) (falls-is d f false stands test) (e .1 .1);
       state = λ f stands.
           subst (Stands (b d .args .p .taps) z) (next-without (sheet (b d)) f (pair (b d)) (falls-is d f false stands test))

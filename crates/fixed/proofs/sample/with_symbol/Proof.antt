@@ -198,7 +198,7 @@ module _ (c : tie.After-after-symbol2) where
   makes = record {
     on = subst (GoesOn (sheet b) (x b)) kept-is (with-symbol-on (b .pre .0) _ _ (b .pre .1));
     sample = ap (λ (z : Symbol). z .sample) made-is ∙ sample-is (b .args .p) _ _ (b .args .w .samples) (phase b) _;
-    few = subst (λ (z : Symbol). z .clips ≤ 12) (sym made-is) (symbol-twelve (b .args .p) _ _ (b .args .w .samples) (phase b) _);
+    few-clips = subst (λ (z : Symbol). z .clips ≤ 12) (sym made-is) (symbol-twelve (b .args .p) _ _ (b .args .w .samples) (phase b) _);
     is = symbol-is;
     state = λ f stands.
         subst (λ (z : Kept). Stands (b .args .p .taps) z (withSymbol (sheet b) f)) kept-is

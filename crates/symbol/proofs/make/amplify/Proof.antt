@@ -1,6 +1,6 @@
 -- `symbol::make::amplify` meets its contract: what is fitted is R of the two products, which `round_product` takes whole.
 -- A gain of 16 bits unsigned is a number of 32 bits signed.
-use mathlib.Core.Path.{_≡_, ap, _∙_}
+use mathlib.Core.Path.{_≡_, _∙_}
 use native.Mathlib.Omega.{arith}
 use lib.IntN.{ℤ, pos, _*ℤ_}
 use mir.Syntax.{w16, w32, w64}

@@ -1,6 +1,6 @@
 -- `symbol::make::clip` meets its contract: each component is what its call answers, and so is whether it was clipped.
 -- Two of them are at most two, which 8 bits hold.
-use Prim.Native.Nat.{ℕ, _+_, _≤_}
+use Prim.Native.Nat.{_+_, _≤_}
 use mathlib.Core.Path.{_≡_, refl, ap, _∙_}
 use mathlib.Core.Bool.{Bool, true, false, cond}
 use native.Mathlib.Omega.{arith}

@@ -1,4 +1,5 @@
 -- `symbol::make::fit` meets its contract: what 16 bits hold is left as it is and counts for nothing (arith, Held), so the short way answers the same.
+-- Where one of the two components does not fit, `clip` answers.
 use Prim.Native.Nat.{_+_}
 use mathlib.Core.Path.{_≡_, refl, sym, ap, subst, _∙_}
 use mathlib.Core.Bool.{Bool, true, false, not, cond, true≢false}

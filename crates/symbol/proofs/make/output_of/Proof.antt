@@ -1,5 +1,5 @@
 -- `symbol::make::output_of` meets its contract: what is fitted is what the two calls answer, and these take any number of 64 bits.
-use mathlib.Core.Path.{_≡_, ap, _∙_}
+use mathlib.Core.Path.{ap, _∙_}
 use lib.IntN.{ℤ}
 use mir.Syntax.{w64}
 use borrow.Author.Needs.{needs}
