@@ -79,6 +79,8 @@ static int set_gain(struct receiver *rx, const struct dish *dish, const struct r
         struct block block;
         uint32_t refused = poll_clips(rx, dish, gain, &block);
         if (refused) return refuse(r, "the block", refused);
+        /* A block without symbols has no clips either, and says nothing. */
+        if (block.symbols == 0) return fail(r, "too few samples for a symbol");
         printf("%2d dB: %" PRId64 " clips in %" PRId64 " symbols: %s\n", gain, block.clips, block.symbols, block.clips ? "lower the gain" : "leave it there");
         if (block.clips == 0) return 0;
     }
@@ -93,8 +95,6 @@ static int run(struct recording *r) {
     if (!start(&rx, r)) return 1;
     while (dish.length < 2 * PAIRS && (found = read_pair(r, dish.values + dish.length)) == 1) dish.length += 2;
     if (found < 0) return 1;
-    /* A block without symbols has no clips either, and says nothing. */
-    if (dish.length == 0) return fail(r, "there are no samples behind the banks");
     return set_gain(&rx, &dish, r);
 }
 

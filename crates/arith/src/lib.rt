@@ -85,6 +85,17 @@ pub struct Saturated {
     pub changed: bool,
 }
 
+// Saturate to 16 bits, and say whether that has changed the number.
+pub fn sat16(v: i64) -> Saturated
+    ensures { λ r. ⌜ r ≡ saturatedTo v ⌝ }
+{
+    let held = clamp(v, -32768, 32767);
+    Saturated {
+        value: held as i16,
+        changed: held != v,
+    }
+}
+
 // Whether 16 bits hold v, so that sat16 leaves it as it is.
 pub fn fits_i16(v: i64) -> bool
     ensures { λ r. ⌜ r ≡ not (sat16Changes v) ⌝ }
@@ -96,17 +107,6 @@ pub fn fits_i16(v: i64) -> bool
         return false;
     }
     true
-}
-
-// Saturate to 16 bits, and say whether that has changed the number.
-pub fn sat16(v: i64) -> Saturated
-    ensures { λ r. ⌜ r ≡ saturatedTo v ⌝ }
-{
-    let held = clamp(v, -32768, 32767);
-    Saturated {
-        value: held as i16,
-        changed: held != v,
-    }
 }
 
 // v modulo 2^32, as 32 bits unsigned.

@@ -28,7 +28,7 @@ fn clip(i: i64, q: i64) -> Fitted
     }
 }
 
-// The same, by a short way for components that 16 bits hold, as those of most signals are.
+// The same, by a short way where 16 bits hold both, as they do in a signal that is set right: two tests in place of clamps and counting.
 fn fit(i: i64, q: i64) -> Fitted
     ensures { λ r. ⌜ r ≡ fitted i q ⌝ }
 {

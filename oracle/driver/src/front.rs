@@ -68,11 +68,30 @@ impl Rust {
     }
 }
 
+/// The reading, and the state that it handed back last.
+pub struct Read<'a> {
+    reading: Reading<'a>,
+    state: State,
+}
+
+impl Read<'_> {
+    /// Runs a block and gives the numbers of its symbols.
+    pub fn process(&mut self, pairs: &[[i16; 2]]) -> Vec<i64> {
+        let places = SYMBOL * pairs.len();
+        let block = self
+            .reading
+            .block(&self.state, pairs.as_flattened(), places);
+        assert_eq!(block.refusal, [], "a block of a run");
+        assert_eq!(block.taken, pairs.len(), "there were places for all");
+        self.state = block.state;
+        block.output
+    }
+}
+
 /// A run of an accepted sheet, of whatever delay.
 pub enum Front<'a> {
     Rust(Box<Rust>),
-    /// The reading, and the state that it handed back last.
-    Read(Box<(Reading<'a>, State)>),
+    Read(Box<Read<'a>>),
 }
 
 impl<'a> Front<'a> {
@@ -82,22 +101,7 @@ impl<'a> Front<'a> {
             None => {
                 let reading = Reading::of(sheet);
                 let state = reading.start();
-                Self::Read(Box::new((reading, state)))
-            }
-        }
-    }
-
-    /// Runs a block and gives the numbers of its symbols.
-    pub fn process(&mut self, pairs: &[[i16; 2]]) -> Vec<i64> {
-        match self {
-            Self::Rust(rust) => rust.process(pairs).symbols,
-            Self::Read(run) => {
-                let (reading, state) = &mut **run;
-                let block = reading.block(state, pairs.as_flattened(), SYMBOL * pairs.len());
-                assert_eq!(block.refusal, [], "a block of a run");
-                assert_eq!(block.taken, pairs.len(), "there were places for all");
-                *state = block.state;
-                block.output
+                Self::Read(Box::new(Read { reading, state }))
             }
         }
     }
@@ -105,7 +109,7 @@ impl<'a> Front<'a> {
     pub fn state(&self) -> State {
         match self {
             Self::Rust(rust) => rust.state(),
-            Self::Read(run) => run.1.clone(),
+            Self::Read(run) => run.state.clone(),
         }
     }
 }

@@ -188,8 +188,8 @@ fn flush(
                 writeln!(output, "{}", joined(&numbers(symbol)))?;
             }
         }
-        Front::Read(_) => {
-            for symbol in front.process(block).chunks(SYMBOL) {
+        Front::Read(run) => {
+            for symbol in run.process(block).chunks(SYMBOL) {
                 writeln!(output, "{}", joined(symbol))?;
             }
         }
