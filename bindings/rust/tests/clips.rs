@@ -1,10 +1,13 @@
 //! Clips: how many numbers of a block's symbols 16 bits were too few for.
 
 mod common;
+#[path = "common/lent.rs"]
+mod lent;
 
 use common::{RECORDING, recording};
-use huntelm::archive::{BLOCK, BLOCK_CLIPS, BLOCK_COUNT, BLOCK_TAKEN, STATE, SYMBOL, Sheet};
+use huntelm::archive::{BLOCK, BLOCK_CLIPS, BLOCK_COUNT, BLOCK_TAKEN, SYMBOL};
 use huntelm::{Block, Frontend, Params, Refusal, Symbol};
+use lent::{fresh, lent};
 
 /// The place of a state that has the samples so far.
 const SAMPLES: usize = 9;
@@ -95,21 +98,6 @@ fn clipped(p: &Params, pairs: &[[i16; 2]], symbol: &Symbol) -> [bool; 12] {
 fn counts(p: &Params, pairs: &[[i16; 2]], symbols: &[Symbol]) -> Vec<u64> {
     let count = |symbol| clipped(p, pairs, symbol).into_iter().filter(|c| *c).count() as u64;
     symbols.iter().map(count).collect()
-}
-
-fn lent<'a>(p: &'a Params, places: &'a [i64]) -> Sheet<'a> {
-    Sheet {
-        places,
-        h: &p.h,
-        g: &p.g,
-        k: &p.k,
-    }
-}
-
-fn fresh(p: &Params) -> [i64; STATE] {
-    let mut state = [0; STATE];
-    assert_eq!(lent(p, &p.places()).start(&mut state), 0);
-    state
 }
 
 /// A component of 8192 goes through the mixer as it is, and the coefficient 65536 makes 32768 of it.

@@ -1,10 +1,13 @@
 //! The loop's delay: where it is refused, when a symbol's errors act, and which states go on under which delay.
 
 mod common;
+#[path = "common/lent.rs"]
+mod lent;
 
 use common::{RECORDING, recording};
 use huntelm::archive::{BLOCK, BLOCK_COUNT, BLOCK_TAKEN, STATE, SYMBOL, Sheet};
 use huntelm::{Frontend, Params, Refusal, Symbol};
+use lent::{fresh, lent};
 use std::collections::HashSet;
 
 /// Places of a state: time, gain accumulator, symbols so far, the oldest errors' position, how many wait, and the first of the ring.
@@ -25,21 +28,6 @@ const RING: usize = 24;
 fn with_delay(delay: u8) -> (Params, Vec<[i16; 2]>) {
     let (params, pairs) = recording(RECORDING);
     (Params { delay, ..params }, pairs)
-}
-
-fn lent<'a>(p: &'a Params, places: &'a [i64]) -> Sheet<'a> {
-    Sheet {
-        places,
-        h: &p.h,
-        g: &p.g,
-        k: &p.k,
-    }
-}
-
-fn fresh(p: &Params) -> [i64; STATE] {
-    let mut state = [0; STATE];
-    assert_eq!(lent(p, &p.places()).start(&mut state), 0);
-    state
 }
 
 /// Takes one pair, and gives the symbol's places where one falls on it.

@@ -1,10 +1,13 @@
 //! How many pairs a block takes, and what becomes of those that it does not take: `Sheet::block` with places for fewer symbols than there are pairs.
 
 mod common;
+#[path = "common/lent.rs"]
+mod lent;
 
 use common::{RECORDING, recording};
-use huntelm::archive::{BLOCK, BLOCK_COUNT, BLOCK_TAKEN, STATE, SYMBOL, Sheet};
+use huntelm::archive::{BLOCK, BLOCK_COUNT, BLOCK_TAKEN, STATE, SYMBOL};
 use huntelm::{Params, Refusal};
+use lent::{fresh, lent};
 
 /// The place of a state that has the samples so far.
 const SAMPLES: usize = 9;
@@ -46,15 +49,6 @@ impl After {
     }
 }
 
-fn lent<'a>(p: &'a Params, places: &'a [i64]) -> Sheet<'a> {
-    Sheet {
-        places,
-        h: &p.h,
-        g: &p.g,
-        k: &p.k,
-    }
-}
-
 /// A block on this state, with so many places for symbols and so many for the answer.
 fn block(p: &Params, state: &[i64; STATE], values: &[i16], places: usize, room: usize) -> After {
     let mut after = After::refused(NONE, state, places, room);
@@ -75,12 +69,6 @@ fn run(p: &Params, values: &[i16], places: usize) -> (Vec<i64>, [i64; STATE]) {
         state = after.state;
     }
     (symbols, state)
-}
-
-fn fresh(p: &Params) -> [i64; STATE] {
-    let mut state = [0; STATE];
-    assert_eq!(lent(p, &p.places()).start(&mut state), NONE);
-    state
 }
 
 /// The sheet, and the values of the pairs.
