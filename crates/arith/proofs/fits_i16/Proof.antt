@@ -1,4 +1,5 @@
 -- `arith::fits_i16` meets its contract: below the lower end and above the upper one a number is changed to that end, and between them it stays (Held).
+-- Only the bits of the parameter have to be read back first.
 use mathlib.Core.Path.{sym, ap}
 use mathlib.Core.Bool.{not}
 use mir.Facts.{toZ-ofZ}

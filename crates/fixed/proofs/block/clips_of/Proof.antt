@@ -1,4 +1,5 @@
--- `fixed::block::clips_of` meets its contract: its test is the definition's, and a number of 8 bits loses nothing in a wider type.
+-- `fixed::block::clips_of` meets its contract: its test is the definition's.
+-- A number of 8 bits loses nothing in a wider type.
 use mathlib.Core.Path.{refl}
 use borrow.Author.Needs.{needs}
 use borrow.Author.Tests.{not-true, not-false}

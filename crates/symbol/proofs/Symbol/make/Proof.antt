@@ -1,21 +1,17 @@
 -- `symbol::Symbol::make` meets its contract: each part of the symbol is what its call answers, of the same parts that the definition takes for it.
 -- Nothing has to be known of the sheet, the gain or the sums; the clips of six outputs are at most twelve, so their sum does not overflow.
-use Prim.Native.Nat.{ℕ, _+_, _^_, _≤_, _<_}
+use Prim.Native.Nat.{_+_, _^_, _≤_, _<_}
 use mathlib.Core.Path.{_≡_, ap, _∙_}
-use mathlib.Core.List.{List}
 use native.Mathlib.Omega.{arith}
-use lib.ListN.{getD}
-use lib.IntN.{ℤ, pos}
+use lib.IntN.{ℤ}
 use lib.Signed.{mag}
 use mir.Syntax.{w16, w32}
 use mir.Val.{toZ, ofZ}
 use borrow.Author.Needs.{needs}
 use Rattle.arith.proofs.Bits.{held}
 use Rattle.params.specs.declared.Params.{Params}
-use Rattle.symbol.specs.declared.Sums.{Sums}
-use Rattle.symbol.specs.declared.Symbol.{Symbol}
 use Rattle.symbol.specs.declared.make.Fitted.{Fitted}
-use Rattle.symbol.specs.Make.{outputOf, amplified, quantised, timingError, gainError, symbolFrom}
+use Rattle.symbol.specs.Make.{amplified, quantised, timingError, gainError, symbolFrom}
 use Rattle.symbol.proofs.Clips.{output-two, amplified-two}
 use Rattle.symbol.proofs.Symbol.make.Statement.{statement}
 use Rattle.symbol.proofs.Symbol.make.Tie as tie
@@ -119,68 +115,46 @@ add-t36 c = let f = few (c .before .before .before .before .before .before) in r
 component : (p : Params) (x : ℤ) {r : ℤ} → mag x < 2 ^ 15 → r ≡ quantised p (toZ w16 (ofZ w16 x)) → mag r < 2 ^ 15 → toZ w16 (ofZ w16 r) ≡ quantised p x
 component p x {r} f told g = held w16 r g ∙ told ∙ ap (quantised p) (held w16 x f)
 
--- all parts, each by what its call tells of those before it
-made : (p : Params) (gain period sample phase : ℕ) (sums : List Sums) {y dy yk z dz zk : Fitted} {i q e err : ℤ}
-    → let none : Sums = record { i = pos 0; q = pos 0 } in
-    y ≡ outputOf (getD sums 0 none) → dy ≡ outputOf (getD sums 1 none) → yk ≡ outputOf (getD sums 2 none)
-    → z ≡ amplified gain (y .output) → dz ≡ amplified gain (dy .output) → zk ≡ amplified gain (yk .output)
-    → i ≡ quantised p (zk .output .i) → q ≡ quantised p (zk .output .q) → e ≡ timingError p (z .output) (dz .output) → err ≡ gainError p (zk .output)
-    → _≡_ {A = Symbol} (record {
-      sample = sample;
-      phase = phase;
-      y = y .output;
-      dy = dy .output;
-      yk = yk .output;
-      gain = gain;
-      period = period;
-      z = z .output;
-      dz = dz .output;
-      zk = zk .output;
-      q = record { i = i; q = q };
-      e = e;
-      err = err;
-      clips = y .clips + dy .clips + yk .clips + z .clips + dz .clips + zk .clips;
-    }) (symbolFrom p gain period sample phase sums)
-unfolding symbolFrom
-made p gain period sample phase sums y dy yk z dz zk i q e err =
-    let z′ = z ∙ ap (λ (x : Fitted). amplified gain (x .output)) y in
-    let dz′ = dz ∙ ap (λ (x : Fitted). amplified gain (x .output)) dy in
-    let zk′ = zk ∙ ap (λ (x : Fitted). amplified gain (x .output)) yk in
-    let i′ = i ∙ ap (λ (x : Fitted). quantised p (x .output .i)) zk′ in
-    let q′ = q ∙ ap (λ (x : Fitted). quantised p (x .output .q)) zk′ in
-    let e′ = e ∙ (λ t. timingError p (z′ t .output) (dz′ t .output)) in
-    let err′ = err ∙ ap (λ (x : Fitted). gainError p (x .output)) zk′ in
-    λ t. record {
-      sample = sample;
-      phase = phase;
-      y = y t .output;
-      dy = dy t .output;
-      yk = yk t .output;
-      gain = gain;
-      period = period;
-      z = z′ t .output;
-      dz = dz′ t .output;
-      zk = zk′ t .output;
-      q = record { i = i′ t; q = q′ t };
-      e = e′ t;
-      err = err′ t;
-      clips = y t .clips + dy t .clips + yk t .clips + z′ t .clips + dz′ t .clips + zk′ t .clips;
-    }
-
+-- each part by what its call tells of those before it
 returns : tie.Need-returns
+unfolding symbolFrom
 returns c =
     let err = c .before .before .before .before .before .before in
     let e = err .before in
     let qq = e .before in
     let qi = qq .before .before in
     let a = after-y err .before .before .args in
-    let zk = after-zk err .amplify3 .result .output in
-    made (a .p) (a .gain) (a .period) (a .sample) (a .phase) _ (after-y err .output-of .ensures) (after-dy err .output-of2 .ensures)
-    (after-yk err .output-of3 .ensures) (after-z err .amplify .ensures) (after-dz err .amplify2 .ensures) (after-zk err .amplify3 .ensures)
-    (component (a .p) (zk .i) (search (qi .before .struct-told .given)) (qi .quantise .ensures) (qi .quantise .ok))
-    (component (a .p) (zk .q) (search (qq .before .struct-told2 .given)) (qq .quantise2 .ensures) (qq .quantise2 .ok))
-    (held w32 (e .timing-error .result) (e .timing-error .ok) ∙ e .timing-error .ensures)
-    (held w32 (err .agc-error .result) (err .agc-error .ok) ∙ err .agc-error .ensures)
+    let loud : Fitted → Fitted = λ x. amplified (a .gain) (x .output) in
+    let k = after-zk err .amplify3 .result .output in
+    let y′ = after-y err .output-of .ensures in
+    let dy′ = after-dy err .output-of2 .ensures in
+    let yk′ = after-yk err .output-of3 .ensures in
+    let z′ = after-z err .amplify .ensures ∙ ap loud y′ in
+    let dz′ = after-dz err .amplify2 .ensures ∙ ap loud dy′ in
+    let zk′ = after-zk err .amplify3 .ensures ∙ ap loud yk′ in
+    let i′ = component (a .p) (k .i) (search (qi .before .struct-told .given)) (qi .quantise .ensures) (qi .quantise .ok)
+    ∙ ap (λ (x : Fitted). quantised (a .p) (x .output .i)) zk′ in
+    let q′ = component (a .p) (k .q) (search (qq .before .struct-told2 .given)) (qq .quantise2 .ensures) (qq .quantise2 .ok)
+    ∙ ap (λ (x : Fitted). quantised (a .p) (x .output .q)) zk′ in
+    let e′ = held w32 (e .timing-error .result) (e .timing-error .ok) ∙ e .timing-error .ensures
+    ∙ (λ t. timingError (a .p) (z′ t .output) (dz′ t .output)) in
+    let err′ = held w32 (err .agc-error .result) (err .agc-error .ok) ∙ err .agc-error .ensures ∙ ap (λ (x : Fitted). gainError (a .p) (x .output)) zk′ in
+    λ t. record {
+      sample = a .sample;
+      phase = a .phase;
+      y = y′ t .output;
+      dy = dy′ t .output;
+      yk = yk′ t .output;
+      gain = a .gain;
+      period = a .period;
+      z = z′ t .output;
+      dz = dz′ t .output;
+      zk = zk′ t .output;
+      q = record { i = i′ t; q = q′ t };
+      e = e′ t;
+      err = err′ t;
+      clips = y′ t .clips + dy′ t .clips + yk′ t .clips + z′ t .clips + dz′ t .clips + zk′ t .clips;
+    }
 
 pub make-spec : {M : Type 1} → statement M
 make-spec =

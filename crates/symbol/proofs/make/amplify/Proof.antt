@@ -2,7 +2,7 @@
 -- A gain of 16 bits unsigned is a number of 32 bits signed.
 use mathlib.Core.Path.{_≡_, _∙_}
 use native.Mathlib.Omega.{arith}
-use lib.IntN.{ℤ, pos, _*ℤ_}
+use lib.IntN.{pos, _*ℤ_}
 use mir.Syntax.{w16, w32, w64}
 use mir.Val.{toZ}
 use mir.Facts.{toZ-pos}
