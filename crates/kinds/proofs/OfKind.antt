@@ -1,12 +1,13 @@
 -- Numbers of a kind: they fit the kind's type, and those that fit are of it; places that were looked at one after the other have each their kind.
+-- Places can be looked at in two parts.
 use Prim.Native.Nat.{ℕ, zero, suc, _+_, _<_, _≤_}
-use mathlib.Core.Path.{_≡_, refl, sym, _∙_}
-use mathlib.Core.Bool.{true, false, _&&_, and-false, false≢true}
-use mathlib.Core.List.{List, [], _∷_}
+use mathlib.Core.Path.{_≡_, refl, sym, ap, _∙_}
+use mathlib.Core.Bool.{Bool, true, false, _&&_, and-true, and-false, and-assoc, false≢true}
+use mathlib.Core.List.{List, [], _∷_, _++_}
 use native.Mathlib.Omega.{arith}
 use native.Mathlib.Numerals.{add-one}
 use lib.Dec.{T}
-use lib.ListN.{length, getD, drop}
+use lib.ListN.{length, getD, take, drop, drop-of-length-le}
 use lib.Seq.{drop-cons}
 use lib.IntN.{ℤ, pos, natAbs}
 use lib.Signed.{leZ, nonNeg, pos-natAbs}
@@ -108,8 +109,41 @@ too-few [] l h = absurd (omega arith)
 too-few (kind ∷ kinds) [] h = refl
 too-few (kind ∷ kinds) (z ∷ l) h = rw (too-few kinds l (omega arith)) (and-false (isKind kind z))
 
--- one place more: what was found so far holds, so the next place and those behind it decide
-pub next-kind : (kinds : List ℕ) (l : List ℤ) (n : ℕ) → n < length kinds → n < length l
+-- ---- places that are looked at one after the other
+
+-- after n of the kinds: whether the first n places are of theirs was found, and the places behind them decide the rest
+pub record SoFar (kinds : List ℕ) (l : List ℤ) (good : Bool) (n : ℕ) : Type 0 where
+  pub inside : n ≤ length kinds
+  pub is : areKinds kinds l ≡ (good && areKinds (drop n kinds) (drop n l))
+
+pub so-far-none : (kinds : List ℕ) (l : List ℤ) → SoFar kinds l true 0
+so-far-none kinds l = record { inside = omega arith; is = refl }
+
+next-kind : (kinds : List ℕ) (l : List ℤ) (n : ℕ) → n < length kinds → n < length l
     → areKinds (drop n kinds) (drop n l) ≡ (isKind (getD kinds n 0) (at l n) && areKinds (drop (n + 1) kinds) (drop (n + 1) l))
 unfolding areKinds
 next-kind kinds l n h k = rw (add-one, drop-cons kinds n 0 h, drop-cons l n (pos 0) k)
+
+pub so-far-step : (kinds : List ℕ) (l : List ℤ) {good next : Bool} {n : ℕ} → SoFar kinds l good n → n < length kinds → n < length l
+    → next ≡ (good && isKind (getD kinds n 0) (at l n)) → SoFar kinds l next (n + 1)
+so-far-step kinds l {good} {next} {n} s h k e =
+    let rest : Bool = areKinds (drop (n + 1) kinds) (drop (n + 1) l) in
+    let split = s .is ∙ ap (λ (t : Bool). good && t) (next-kind kinds l n h k) ∙ sym (and-assoc good (isKind (getD kinds n 0) (at l n)) rest) in
+    record { inside = omega arith; is = split ∙ ap (λ (t : Bool). t && rest) (sym e) }
+
+pub so-far-all : (kinds : List ℕ) (l : List ℤ) {good : Bool} {n : ℕ} → SoFar kinds l good n → length kinds ≤ n → good ≡ areKinds kinds l
+unfolding areKinds
+so-far-all kinds l {good} {n} s h =
+    sym (s .is ∙ ap (λ (k : List ℕ). good && areKinds k (drop n l)) (drop-of-length-le kinds {i = n} h) ∙ and-true good)
+
+-- ---- kinds in two parts
+
+-- the first places are looked at by the first kinds, and those behind them by the others
+pub kinds-append : (kinds others : List ℕ) (l : List ℤ)
+    → areKinds (kinds ++ others) l ≡ (areKinds kinds (take (length kinds) l) && areKinds others (drop (length kinds) l))
+unfolding areKinds
+kinds-append [] others l = refl
+kinds-append (kind ∷ kinds) others [] = refl
+kinds-append (kind ∷ kinds) others (z ∷ l) =
+    ap (λ (t : Bool). isKind kind z && t) (kinds-append kinds others l)
+    ∙ sym (and-assoc (isKind kind z) (areKinds kinds (take (length kinds) l)) (areKinds others (drop (length kinds) l)))
