@@ -14,11 +14,11 @@ use Rattle.registers.specs.declared.Pending.{Pending}
 use Rattle.state.specs.declared.Frontend.{Frontend}
 use Rattle.state.specs.Start.{noPair, noPending}
 use Rattle.kinds.specs.Kinds.{at, i32, isKind, areKinds}
-use Rattle.places.specs.States.{flatPairs, lineOf, pendingOf, lineNumbers, pendingNumbers, stateKinds, stateFits, stateOf, numbersOf}
+use Rattle.places.specs.States.{flatPairs, lineOf, pendingOf, lineNumbers, pendingNumbers, firstKinds, stateKinds, stateFits, stateOf, numbersOf}
 use Rattle.places.specs.Crossing.{Whole, Typed, StatesCross}
 use Rattle.arith.proofs.Both.{and-both}
 use Rattle.kinds.proofs.OfKind.{own-u32, own-count, front}
-use Rattle.places.proofs.Readable.{state-long, firstKinds, state-at}
+use Rattle.places.proofs.Readable.{state-long, state-at}
 use Rattle.places.proofs.Pairs.{flat-long, in-flat, flat-in}
 
 -- ---- the pairs

@@ -1,21 +1,21 @@
 -- A sheet, a design and a state that can be read: each of their places has a number of its field's type.
 use Prim.Native.Nat.{ℕ, _+_, _-_, _≤_, _<_}
-use mathlib.Core.Path.{_≡_, refl, subst, _∙_}
-use mathlib.Core.Bool.{Bool, true, false}
-use mathlib.Core.List.{List, [], _∷_}
+use mathlib.Core.Path.{_≡_, refl, ap, subst, _∙_}
+use mathlib.Core.Bool.{Bool, true, false, _&&_}
+use mathlib.Core.List.{List}
 use native.Mathlib.Omega.{arith}
 use lib.Dec.{eqb}
-use lib.ListN.{length, getD, replicate, getD-replicate, List·getD-append}
+use lib.ListN.{length, getD, take, drop, replicate, length-drop, getD-replicate, List·getD-append}
 use lib.Seq.{getD-append-add}
 use lib.IntN.{ℤ}
 use lib.Ieee.{Float}
-use borrow.Author.Tests.{eqb-true}
-use Rattle.kinds.specs.Kinds.{u32, i32, i64, count, areKinds, placesNumber, KindAt}
+use borrow.Author.Tests.{eq-eqb, eqb-true}
+use Rattle.kinds.specs.Kinds.{i32, areKinds, placesNumber, KindAt}
 use Rattle.places.specs.Sheet.{sheetKinds, sheetNumber}
 use Rattle.places.specs.Rates.{designKinds, designNumber}
-use Rattle.places.specs.States.{stateKinds, stateFits}
+use Rattle.places.specs.States.{firstKinds, stateKinds, stateFits}
 use Rattle.arith.proofs.Both.{and-left, and-right}
-use Rattle.kinds.proofs.OfKind.{kind-at}
+use Rattle.kinds.proofs.OfKind.{kind-at, kinds-append}
 use Rattle.kinds.proofs.Readable.{readable-at}
 
 -- ---- a sheet
@@ -47,10 +47,16 @@ state-kinds : (l : List ℤ) → stateFits l ≡ true → areKinds stateKinds l 
 unfolding stateFits
 state-kinds l e = and-right (eqb (length l) 186) (areKinds stateKinds l) e
 
--- the first ten places
-abbrev pub firstKinds : List ℕ
-firstKinds = u32 ∷ i64 ∷ i64 ∷ u32 ∷ u32 ∷ count ∷ count ∷ count ∷ count ∷ count ∷ []
+-- 186 places are looked at in two parts: the first ten, and those behind them, which are of one kind
+pub state-parts : (l : List ℤ) → length l ≡ 186
+    → stateFits l ≡ (areKinds firstKinds (take 10 l) && areKinds (replicate (length (drop 10 l)) i32) (drop 10 l))
+unfolding stateFits stateKinds
+state-parts l long =
+    let behind : 176 ≡ length (drop 10 l) = omega (arith, length-drop 10 l) in
+    rw (eq-eqb (length l) 186 long) (kinds-append firstKinds (replicate 176 i32) l
+    ∙ ap (λ (n : ℕ). areKinds firstKinds (take 10 l) && areKinds (replicate n i32) (drop 10 l)) behind)
 
+-- the first ten places
 pub state-at : (l : List ℤ) → stateFits l ≡ true → (n : ℕ) → n < 10 → KindAt (getD firstKinds n 0) l n
 unfolding stateKinds
 state-at l e n h =

@@ -41,9 +41,13 @@ pendingNumbers pending = flatPairs (λ (x : Pending). x .e) (λ (x : Pending). x
 
 -- ---- the places
 
--- The types of the places.
+-- The types of the first ten places.
+abbrev pub firstKinds : List ℕ
+firstKinds = u32 ∷ i64 ∷ i64 ∷ u32 ∷ u32 ∷ count ∷ count ∷ count ∷ count ∷ count ∷ []
+
+-- The types of all: behind the first ten are the line and the ring, of one type.
 unfoldable pub stateKinds : List ℕ
-stateKinds = u32 ∷ i64 ∷ i64 ∷ u32 ∷ u32 ∷ count ∷ count ∷ count ∷ count ∷ count ∷ replicate 176 i32
+stateKinds = firstKinds ++ replicate 176 i32
 
 -- The places are those of a state: 186, each with a number of its field's type.
 unfoldable pub stateFits : List ℤ → Bool

@@ -10,27 +10,27 @@ ghost use mathlib.Core.Path.{_≡_};
 ghost use mathlib.Core.Bool.{true};
 ghost use mathlib.Core.List.{_++_};
 ghost use lib.ListN.{length, take, drop};
-ghost use Rattle.places.specs.States.{stateKinds, stateFits, stateOf, readState, lineOf, pendingOf};
+ghost use Rattle.places.specs.States.{firstKinds, stateFits, stateOf, readState, lineOf, pendingOf};
 ghost use Rattle.places.specs.States.{areCounts, hasPlaces, firstNumbers, lineNumbers, pendingNumbers, stateWritten};
 
 // ---- from places
 
-// The types of the places.
-fn state_kinds() -> [u8; 186]
-    ensures { λ r. ⌜ r ≡ stateKinds ⌝ }
+// The types of the first ten places. Those behind them are all of one kind.
+fn first_kinds() -> [u8; 10]
+    ensures { λ r. ⌜ r ≡ firstKinds ⌝ }
 {
-    let mut types = [kinds::I32; 186];
-    types[0] = kinds::U32;
-    types[1] = kinds::I64;
-    types[2] = kinds::I64;
-    types[3] = kinds::U32;
-    types[4] = kinds::U32;
-    types[5] = kinds::COUNT;
-    types[6] = kinds::COUNT;
-    types[7] = kinds::COUNT;
-    types[8] = kinds::COUNT;
-    types[9] = kinds::COUNT;
-    types
+    [
+        kinds::U32,
+        kinds::I64,
+        kinds::I64,
+        kinds::U32,
+        kinds::U32,
+        kinds::COUNT,
+        kinds::COUNT,
+        kinds::COUNT,
+        kinds::COUNT,
+        kinds::COUNT,
+    ]
 }
 
 // Whether the places are those of a state. Whether a block can go on from it is looked at by the block (RULES 4.1).
@@ -40,8 +40,11 @@ fn fits(places: &[i64]) -> bool
     if places.len() != 186 {
         return false;
     }
-    let types = state_kinds();
-    kinds::are_kinds(&types, places)
+    let types = first_kinds();
+    if !kinds::are_kinds(&types, &places[..10]) {
+        return false;
+    }
+    kinds::are_all(kinds::I32, &places[10..])
 }
 
 fn registers_of(state: &[i64]) -> Registers

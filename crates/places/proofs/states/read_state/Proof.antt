@@ -8,8 +8,8 @@ use lib.ListN.{getD}
 use borrow.Author.Needs.{needs}
 use borrow.Author.Tests.{not-true, not-false}
 use Rattle.kinds.specs.Kinds.{KindAt}
-use Rattle.places.specs.States.{stateFits, stateOf, readState}
-use Rattle.places.proofs.Readable.{firstKinds, state-at}
+use Rattle.places.specs.States.{firstKinds, stateFits, stateOf, readState}
+use Rattle.places.proofs.Readable.{state-at}
 use Rattle.places.proofs.states.read_state.Statement.{statement}
 use Rattle.places.proofs.states.read_state.Tie as tie
 
