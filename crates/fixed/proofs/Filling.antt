@@ -9,7 +9,9 @@ use lib.ListN.{length, getD, set, length-set}
 use lib.Seq.{getD-set-same, getD-set-other}
 use lib.IntN.{ℤ}
 use borrow.Author.Tests.{eqb-true, eqb-false}
-use Rattle.fixed.specs.Inside.{lowered, Twice}
+use Rattle.state.specs.declared.Pair.{Pair}
+use Rattle.state.specs.Start.{noPair}
+use Rattle.fixed.specs.Inside.{lowered, In32, Laid}
 
 -- what holds of the first n places and of the next one holds of all of these
 pub next-place : (Q : ℕ → Type 0) (n : ℕ) → ((m : ℕ) → m < n → Q m) → Q n → (m : ℕ) → m < n + 1 → Q m
@@ -39,37 +41,36 @@ filled-next {A} {d} {f} {n} {l₀} {l} filled h =
       rest = λ m k. getD-set-other l n m (f n) d (omega arith) ∙ filled .rest m (omega arith);
     }
 
--- ---- one component of the line, which stands twice in its array
+-- ---- one component of the line
 
--- Place m is laid, and place m + taps is like it.
-abbrev pub Doubled : ℕ → List ℕ → (ℕ → ℤ) → ℕ → Type 0
-Doubled taps kept value m = (lowered (getD kept m 0) ≡ value m) × (getD kept (m + taps) 0 ≡ getD kept m 0)
+-- The first n numbers are raised ones that stand for these values.
+pub record Laying (value : ℕ → ℤ) (n : ℕ) (kept : List ℕ) : Type 0 where
+  pub long : length kept ≡ 64
+  pub stands : (m : ℕ) → m < n → lowered (getD kept m 0) ≡ value m
+  pub small : In32 n kept
 
-pub record Laying (taps : ℕ) (value : ℕ → ℤ) (n : ℕ) (kept : List ℕ) : Type 0 where
-  pub long : length kept ≡ 128
-  pub each : (m : ℕ) → m < n → Doubled taps kept value m
+pub laying-none : (value : ℕ → ℤ) (kept : List ℕ) → length kept ≡ 64 → Laying value 0 kept
+laying-none value kept e = record { long = e; stands = λ m h. absurd (omega arith); small = λ m h. absurd (omega arith) }
 
-pub laying-none : (taps : ℕ) (value : ℕ → ℤ) (kept : List ℕ) → length kept ≡ 128 → Laying taps value 0 kept
-laying-none taps value kept e = record { long = e; each = λ m h. absurd (omega arith) }
-
--- a number that stands for the next value joins the component, at both of its places
-pub laying-next : {taps : ℕ} {value : ℕ → ℤ} {n : ℕ} {kept : List ℕ} → Laying taps value n kept → (x : ℕ) → lowered x ≡ value n → n < taps → taps ≤ 64
-    → Laying taps value (n + 1) (set (set kept n x) (n + taps) x)
-laying-next {taps} {value} {n} {kept} laid x e h k =
-    let once : List ℕ = set kept n x in
-    let twice : List ℕ = set once (n + taps) x in
-    let long-once : length once ≡ 128 = length-set kept n x ∙ laid .long in
-    let low : (m : ℕ) → m < taps → getD twice m 0 ≡ getD once m 0 = λ m l. getD-set-other once (n + taps) m x 0 (omega arith) in
-    let at : getD twice n 0 ≡ x = low n h ∙ getD-set-same kept n x 0 (omega (arith, laid .long)) in
-    let other : (m : ℕ) → m < n → getD twice m 0 ≡ getD kept m 0 = λ m l. low m (omega arith) ∙ getD-set-other kept n m x 0 (omega arith) in
-    let far : (m : ℕ) → m < n → getD twice (m + taps) 0 ≡ getD kept (m + taps) 0 =
-    λ m l. getD-set-other once (n + taps) (m + taps) x 0 (omega arith) ∙ getD-set-other kept n (m + taps) x 0 (omega arith) in
+-- a number that stands for the next value joins them
+pub laying-next : {value : ℕ → ℤ} {n : ℕ} {kept : List ℕ} → Laying value n kept → (x : ℕ) → lowered x ≡ value n → x < 4294967296 → n < 64
+    → Laying value (n + 1) (set kept n x)
+laying-next {value} {n} {kept} laid x e small h =
+    let at : getD (set kept n x) n 0 ≡ x = getD-set-same kept n x 0 (omega (arith, laid .long)) in
+    let other : (m : ℕ) → m < n → getD (set kept n x) m 0 ≡ getD kept m 0 = λ m l. getD-set-other kept n m x 0 (omega arith) in
     record {
-      long = length-set once (n + taps) x ∙ long-once;
-      each =
-          next-place (Doubled taps twice value) n (λ m l. (rw (other m l) (laid .each m l .0), far m l ∙ laid .each m l .1 ∙ sym (other m l)))
-          (rw at e, getD-set-same once (n + taps) x 0 (omega arith) ∙ sym at);
+      long = length-set kept n x ∙ laid .long;
+      stands = next-place (λ m. lowered (getD (set kept n x) m 0) ≡ value m) n (λ m l. rw (other m l) (laid .stands m l)) (rw at e);
+      small = next-place (λ m. getD (set kept n x) m 0 < 4294967296) n (λ m l. rw (other m l) (laid .small m l)) (rw at small);
     }
 
-pub laying-all : {taps : ℕ} {value : ℕ → ℤ} {n : ℕ} {kept : List ℕ} → Laying taps value n kept → taps ≤ n → Twice taps kept value
-laying-all laid h = record { long = laid .long; once = λ m k. laid .each m (omega arith) .0; again = λ m k. laid .each m (omega arith) .1 }
+-- both components of a line
+pub laying-all : {taps n : ℕ} {line : List Pair} {i q : List ℕ} → length line ≡ 64 → taps ≤ n → Laying (λ m. getD line m noPair .i) n i
+    → Laying (λ m. getD line m noPair .q) n q
+    → Laid taps i q line
+laying-all long h a b = record {
+  long-i = a .long;
+  long-q = b .long;
+  long = long;
+  each = λ m l. λ t. record { i = sym (a .stands m (omega arith)) t; q = sym (b .stands m (omega arith)) t };
+}

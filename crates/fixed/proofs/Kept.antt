@@ -32,50 +32,45 @@ use Rattle.fixed.specs.Filter.{filtered}
 use Rattle.fixed.specs.Queue.{oldestErrors}
 use Rattle.fixed.specs.Sample.{due, symbolOf, joined, withSymbol, withoutSymbol, falls, next, madeBy}
 use Rattle.state.specs.Check.{goodState, outline}
-use Rattle.fixed.specs.Inside.{lowered, Twice, Laid, Queued, errorsAt, Kept, kept, Stands, Ready, GoesOn}
+use Rattle.fixed.specs.Inside.{lowered, In32, pairAt, Laid, Queued, errorsAt, Kept, kept, Stands, Ready, GoesOn}
 use Rattle.state.proofs.Going.{time, Going, going, good}
 use Rattle.fixed.proofs.States.{head-below, due-within, without-symbol-going, with-symbol-going}
 use Rattle.fixed.proofs.OneStep.{one-step}
 
 -- ---- the line
 
--- a number joins one component, at both of its places
-pub twice-joined : {taps : ℕ} {kept : List ℕ} (line : List Pair) (of : Pair → ℤ) (head x : ℕ) (m : Pair) → lowered x ≡ of m → head < taps → taps ≤ 64
-    → length line ≡ 64
-    → Twice taps kept (λ n. of (getD line n noPair)) → Twice taps (set (set kept head x) (head + taps) x) (λ n. of (getD (set line head m) n noPair))
-twice-joined {taps} {kept} line of head x m e h k l t =
-    let once : List ℕ = set kept head x in
-    let twice : List ℕ = set once (head + taps) x in
-    let long-once : length once ≡ 128 = length-set kept head x ∙ t .long in
-    let low : (n : ℕ) → n < taps → getD twice n 0 ≡ getD once n 0 = λ n b. getD-set-other once (head + taps) n x 0 (omega arith) in
-    record {
-      long = length-set once (head + taps) x ∙ long-once;
-      once = λ n b. rw (low n b) (at n b (eqb n head) refl);
-      again = λ n b. rw (low n b) (far n b (eqb n head) refl);
-    }
-  where
-    at : (n : ℕ) → n < taps → (b : Bool) → eqb n head ≡ b → lowered (getD (set kept head x) n 0) ≡ of (getD (set line head m) n noPair)
-    at n b true q = rw (eqb-true n head q, getD-set-same kept head x 0 (omega (arith, t .long)), getD-set-same line head m noPair (omega arith)) e
-    at n b false q =
-        let other = eqb-false n head q in
-        rw (getD-set-other kept head n x 0 (omega arith), getD-set-other line head n m noPair (omega arith)) (t .once n b)
-
-    far : (n : ℕ) → n < taps → (b : Bool) → eqb n head ≡ b → getD (set (set kept head x) (head + taps) x) (n + taps) 0 ≡ getD (set kept head x) n 0
-    far n b true q =
-        let long-once : length (set kept head x) ≡ 128 = length-set kept head x ∙ t .long in
-        rw (eqb-true n head q, getD-set-same (set kept head x) (head + taps) x 0 (omega arith)) (sym (getD-set-same kept head x 0 (omega (arith, t .long))))
-    far n b false q =
-        let other = eqb-false n head q in
-        getD-set-other (set kept head x) (head + taps) (n + taps) x 0 (omega arith) ∙ getD-set-other kept head (n + taps) x 0 (omega arith) ∙ t .again n b
-        ∙ sym (getD-set-other kept head n x 0 (omega arith))
-
+-- a pair takes a place
 pub laid-joined : {taps : ℕ} {i q : List ℕ} {line : List Pair} (head x y : ℕ) (m : Pair) → lowered x ≡ m .i → lowered y ≡ m .q → head < taps → taps ≤ 64
-    → Laid taps i q line → Laid taps (set (set i head x) (head + taps) x) (set (set q head y) (head + taps) y) (set line head m)
-laid-joined {line} head x y m ex ey h k laid = record {
+    → Laid taps i q line → Laid taps (set i head x) (set q head y) (set line head m)
+laid-joined {taps} {i} {q} {line} head x y m ex ey h k laid = record {
+  long-i = length-set i head x ∙ laid .long-i;
+  long-q = length-set q head y ∙ laid .long-q;
   long = length-set line head m ∙ laid .long;
-  in-i = twice-joined line (λ (a : Pair). a .i) head x m ex h k (laid .long) (laid .in-i);
-  in-q = twice-joined line (λ (a : Pair). a .q) head y m ey h k (laid .long) (laid .in-q);
+  each = λ n b. go n b (eqb n head) refl;
 }
+  where
+    go : (n : ℕ) → n < taps → (b : Bool) → eqb n head ≡ b → getD (set line head m) n noPair ≡ pairAt (set i head x) (set q head y) n
+    go n b true e =
+        rw (
+          eqb-true n head e,
+          getD-set-same line head m noPair (omega (arith, laid .long)),
+          getD-set-same i head x 0 (omega (arith, laid .long-i)),
+          getD-set-same q head y 0 (omega (arith, laid .long-q)),
+        )
+        (λ t. record { i = sym ex t; q = sym ey t })
+    go n b false e =
+        let other = eqb-false n head e in
+        rw (getD-set-other line head n m noPair (omega arith), getD-set-other i head n x 0 (omega arith), getD-set-other q head n y 0 (omega arith))
+        (laid .each n b)
+
+-- and leaves numbers below 2^32
+in32-joined : (taps : ℕ) (kept : List ℕ) (head x : ℕ) → x < 4294967296 → head < taps → taps ≤ 64 → length kept ≡ 64 → In32 taps kept
+    → In32 taps (set kept head x)
+in32-joined taps kept head x small h k long old n b = go (eqb n head) refl
+  where
+    go : (b : Bool) → eqb n head ≡ b → getD (set kept head x) n 0 < 4294967296
+    go true e = rw (eqb-true n head e, getD-set-same kept head x 0 (omega arith)) small
+    go false e = let other = eqb-false n head e in rw (getD-set-other kept head n x 0 (omega arith)) (old n b)
 
 -- ---- the queue
 
@@ -228,6 +223,8 @@ module _ {s : Sheet} {x : Kept} (ready : Ready s x) where
             subst (λ (d : Registers). goodState p (outline (left d) (afterSymbolAt (p .delay) w)) ≡ true) due₀
             (good p (withSymbol s f₀) (with-symbol-going s accepted f₀ soon going₀));
         samples = refl;
+        small-i = ready .begun .small-i;
+        small-q = ready .begun .small-q;
       }
 
   module _ (f : Frontend) (stands : Stands (p .taps) x f) where
@@ -281,7 +278,12 @@ module _ {s : Sheet} {x : Kept} (ready : Ready s x) where
   unfolding withoutSymbol goodState
   without-symbol-on t =
       let late : 16777216 ≤ time f₀ = ltb-false (time f₀) 16777216 (sym (ap (λ (z : ℤ). ltZ z one) (going₀ .whole)) ∙ t) in
-      record { good = good p (withoutSymbol f₀) (without-symbol-going s accepted f₀ late going₀); samples = refl }
+      record {
+        good = good p (withoutSymbol f₀) (without-symbol-going s accepted f₀ late going₀);
+        samples = refl;
+        small-i = ready .begun .small-i;
+        small-q = ready .begun .small-q;
+      }
 
   -- ---- a sample joins
 
@@ -295,13 +297,13 @@ module _ {s : Sheet} {x : Kept} (ready : Ready s x) where
   -- What is kept once a sample joined as these two numbers.
   abbrev pub keptJoined : ℕ → ℕ → Kept
   keptJoined a b =
-      kept (set (set (x .i) head a) (head + p .taps) a) (set (set (x .q) head b) (head + p .taps) b) (x .e) (x .err)
+      kept (set (x .i) head a) (set (x .q) head b) (x .e) (x .err)
       (record { nco = nextNco p (r .nco); «t_acc» = r .«t_acc»; v = r .v; period = r .period; «gain_acc» = r .«gain_acc»; symbols = r .symbols })
       (record { head = head; oldest = w .oldest; waiting = w .waiting; samples = w .samples })
 
-  pub ready-joined : (a b : ℕ) → Ready s (keptJoined a b)
+  pub ready-joined : (a b : ℕ) → a < 4294967296 → b < 4294967296 → Ready s (keptJoined a b)
   unfolding joined
-  ready-joined a b = record {
+  ready-joined a b small-a small-b = record {
     begun = record {
       accepted = ready .begun .accepted;
       good =
@@ -314,8 +316,10 @@ module _ {s : Sheet} {x : Kept} (ready : Ready s x) where
             oldest = ready-going .oldest;
             few = ready-going .few;
           });
-      long-i = length-set (set (x .i) head a) (head + p .taps) a ∙ length-set (x .i) head a ∙ ready .begun .long-i;
-      long-q = length-set (set (x .q) head b) (head + p .taps) b ∙ length-set (x .q) head b ∙ ready .begun .long-q;
+      long-i = length-set (x .i) head a ∙ ready .begun .long-i;
+      long-q = length-set (x .q) head b ∙ ready .begun .long-q;
+      small-i = in32-joined (p .taps) (x .i) head a small-a (head-fits .0) (head-fits .1) (ready .begun .long-i) (ready .begun .small-i);
+      small-q = in32-joined (p .taps) (x .q) head b small-b (head-fits .0) (head-fits .1) (ready .begun .long-q) (ready .begun .small-q);
       long-e = ready .begun .long-e;
       long-err = ready .begun .long-err;
     };

@@ -6,9 +6,11 @@ pub mod Refused
 pub mod States
 pub mod OneStep
 pub mod Filling
+pub mod Parts
 pub mod RowSums
 pub mod Centre
+pub mod PhaseRows
+pub mod TwoRuns
 pub mod Kept
 pub mod Turns
 pub mod Unpacked
-pub mod Windows

@@ -1,20 +1,25 @@
--- The sum of a row over the line, built up coefficient by coefficient. A sum of products is linear in each factor, so what the raising of the line's numbers,
--- or of the coefficients, adds to it is a sum of its own; and each partial sum is bounded by the magnitudes so far.
+-- The sum of a row over the line, built up coefficient by coefficient on top of any number. A sum of products is linear in each factor, so what the raising of
+-- the line's numbers, or of the coefficients, adds to it is a sum of its own; and each tap adds no more than a bound, so n taps add no more than n of them.
 use Prim.Native.Nat.{ℕ, zero, suc, _+_, _*_, _^_, _≤_, _<_}
 use mathlib.Core.Path.{_≡_, refl, sym, ap, _∙_}
 use mathlib.Core.List.{List}
-use native.Mathlib.Nat.{mul-le-mul}
+use native.Mathlib.Nat.{mul-le-mul, suc-mul}
 use native.Mathlib.Numerals.{add-one}
 use native.Mathlib.Omega.{arith}
-use lib.ListN.{length, getD, take, drop, take-append-drop}
-use lib.IntN.{ℤ, pos, negsuc, natAbs, _+ℤ_, _-ℤ_, _*ℤ_, zero-*ℤ, *ℤ-comm, +ℤ-negℤ-cancel}
-use Rattle.arith.proofs.Magnitude.{abs-add}
-use Rattle.arith.proofs.Order.{P, N, abs-pn, add-pn, minus-pn, eq-pn}
+use lib.ListN.{length, getD}
+use lib.IntN.{ℤ, pos, negsuc, natAbs, _+ℤ_, _-ℤ_, _*ℤ_, zero-*ℤ, *ℤ-comm, +ℤ-assoc, +ℤ-idr, +ℤ-negℤ-cancel}
+use mir.Syntax.{w32}
+use mir.Val.{SFits}
+use Rattle.arith.proofs.Magnitude.{abs-add, abs-mul-le}
+use Rattle.arith.proofs.Bits.{fit-abs}
+use Rattle.arith.proofs.Order.{P, N, abs-pn, add-pn, minus-pn, eq-pn, pn-fit}
 use Rattle.arith.proofs.Products.{add-mul, mul-minus}
-use Rattle.params.specs.Banks.{magnitudes}
-use Rattle.params.proofs.Rows.{magnitudes-append, magnitudes-suc}
+use Rattle.symbol.specs.declared.Sums.{Sums}
+use Rattle.fixed.specs.declared.filter.Raised.{Raised}
+use Rattle.fixed.specs.declared.filter.Summed.{Summed}
 use Rattle.fixed.specs.Filter.{sumTo}
-use Rattle.fixed.specs.Inside.{sumOver, sumsOver}
+use Rattle.fixed.specs.TwoRuns.{together}
+use Rattle.fixed.specs.Inside.{lowered, sumOver, sumsOver, unraised, unraisedSums, SumsUpto, RaisedUpto, SummedUpto}
 
 -- ---- sums
 
@@ -32,19 +37,27 @@ unfolding sumTo
 sum-same f g zero h = refl
 sum-same f g (suc n) h = ap (λ (z : ℤ). z +ℤ f n) (sum-same f g n (λ m l. h m (omega arith))) ∙ ap (λ (z : ℤ). sumTo g n +ℤ z) (h n (omega arith))
 
+-- of the first a numbers and of the b behind them
+pub sum-split : (f : ℕ → ℤ) (a b : ℕ) → sumTo f (a + b) ≡ sumTo f a +ℤ sumTo (λ m. f (a + m)) b
+unfolding sumTo
+sum-split f a zero = let e : a + 0 ≡ a = omega arith in rw e (sym (+ℤ-idr (sumTo f a)))
+sum-split f a (suc b) =
+    let e : a + suc b ≡ suc (a + b) = omega arith in
+    rw e (ap (λ (z : ℤ). z +ℤ f (a + b)) (sum-split f a b) ∙ +ℤ-assoc (sumTo f a) (sumTo (λ m. f (a + m)) b) (f (a + b)))
+
 -- of differences
 swap : (a b c d : ℤ) → (a -ℤ b) +ℤ (c -ℤ d) ≡ (a +ℤ c) -ℤ (b +ℤ d)
 swap a b c d =
     eq-pn ((a -ℤ b) +ℤ (c -ℤ d)) ((a +ℤ c) -ℤ (b +ℤ d))
     (omega (arith, add-pn (a -ℤ b) (c -ℤ d), minus-pn a b, minus-pn c d, minus-pn (a +ℤ c) (b +ℤ d), add-pn a c, add-pn b d))
 
-pub sum-minus : (f g : ℕ → ℤ) (n : ℕ) → sumTo (λ m. f m -ℤ g m) n ≡ sumTo f n -ℤ sumTo g n
+sum-minus : (f g : ℕ → ℤ) (n : ℕ) → sumTo (λ m. f m -ℤ g m) n ≡ sumTo f n -ℤ sumTo g n
 unfolding sumTo
 sum-minus f g zero = refl
 sum-minus f g (suc n) = ap (λ (z : ℤ). z +ℤ (f n -ℤ g n)) (sum-minus f g n) ∙ swap (sumTo f n) (sumTo g n) (f n) (g n)
 
 -- of multiples
-pub sum-mul : (f : ℕ → ℤ) (k : ℤ) (n : ℕ) → sumTo (λ m. f m *ℤ k) n ≡ sumTo f n *ℤ k
+sum-mul : (f : ℕ → ℤ) (k : ℤ) (n : ℕ) → sumTo (λ m. f m *ℤ k) n ≡ sumTo f n *ℤ k
 unfolding sumTo
 sum-mul f k zero = sym (zero-*ℤ k)
 sum-mul f k (suc n) = ap (λ (z : ℤ). z +ℤ f n *ℤ k) (sum-mul f k n) ∙ sym (add-mul (sumTo f n) (f n) k)
@@ -52,7 +65,7 @@ sum-mul f k (suc n) = ap (λ (z : ℤ). z +ℤ f n *ℤ k) (sum-mul f k n) ∙ s
 -- ---- what raising adds
 
 -- of the line's numbers: the coefficients' sum times as much
-pub lower-line : (c x : ℕ → ℤ) (k : ℤ) (n : ℕ) → sumTo (λ m. c m *ℤ (x m -ℤ k)) n ≡ sumTo (λ m. c m *ℤ x m) n -ℤ sumTo c n *ℤ k
+lower-line : (c x : ℕ → ℤ) (k : ℤ) (n : ℕ) → sumTo (λ m. c m *ℤ (x m -ℤ k)) n ≡ sumTo (λ m. c m *ℤ x m) n -ℤ sumTo c n *ℤ k
 lower-line c x k n =
     sum-same (λ m. c m *ℤ (x m -ℤ k)) (λ m. c m *ℤ x m -ℤ c m *ℤ k) n (λ m l. mul-minus (c m) (x m) k)
     ∙ sum-minus (λ m. c m *ℤ x m) (λ m. c m *ℤ k) n
@@ -62,49 +75,91 @@ lower-line c x k n =
 one-lower : (c x k : ℤ) → c *ℤ x ≡ (c +ℤ k) *ℤ x -ℤ x *ℤ k
 one-lower c x k = sym (+ℤ-negℤ-cancel (c *ℤ x) (x *ℤ k)) ∙ ap (λ (z : ℤ). z -ℤ x *ℤ k) (ap (λ (z : ℤ). c *ℤ x +ℤ z) (*ℤ-comm x k) ∙ sym (add-mul c k x))
 
-pub lower-row : (c x : ℕ → ℤ) (k : ℤ) (n : ℕ) → sumTo (λ m. c m *ℤ x m) n ≡ sumTo (λ m. (c m +ℤ k) *ℤ x m) n -ℤ sumTo x n *ℤ k
+lower-row : (c x : ℕ → ℤ) (k : ℤ) (n : ℕ) → sumTo (λ m. c m *ℤ x m) n ≡ sumTo (λ m. (c m +ℤ k) *ℤ x m) n -ℤ sumTo x n *ℤ k
 lower-row c x k n =
     sum-same (λ m. c m *ℤ x m) (λ m. (c m +ℤ k) *ℤ x m -ℤ x m *ℤ k) n (λ m l. one-lower (c m) (x m) k)
     ∙ sum-minus (λ m. (c m +ℤ k) *ℤ x m) (λ m. x m *ℤ k) n
     ∙ ap (λ (z : ℤ). sumTo (λ m. (c m +ℤ k) *ℤ x m) n -ℤ z) (sum-mul x k n)
 
--- ---- the magnitudes of the first n coefficients
+-- ---- numbers that grow by a term a tap
 
-pub mag-step : (row : List ℤ) (n : ℕ) → n < length row → magnitudes (take (n + 1) row) ≡ magnitudes (take n row) + natAbs (getD row n (pos 0))
-mag-step row n h = rw add-one (magnitudes-suc row n h)
+-- z is z₀ and the first n terms of f on top of it. A term is at most B, so where z₀ is at most m of these, z is at most m + n.
+pub record Grown (f : ℕ → ℤ) (B n : ℕ) (z₀ z : ℤ) : Type 0 where
+  pub is : z ≡ z₀ +ℤ sumTo f n
+  pub few : (m : ℕ) → natAbs z₀ ≤ m * B → natAbs z ≤ (m + n) * B
 
-pub mag-most : (row : List ℤ) (n : ℕ) → magnitudes (take n row) ≤ magnitudes row
-mag-most row n =
-    let e : magnitudes (take n row) + magnitudes (drop n row) ≡ magnitudes row = sym (magnitudes-append (take n row) (drop n row))
-    ∙ ap magnitudes (take-append-drop n row) in
-    omega arith
+pub grown-none : (f : ℕ → ℤ) (B : ℕ) (z : ℤ) → Grown f B 0 z z
+grown-none f B z = record {
+  is = sym (ap (λ (y : ℤ). z +ℤ y) (sum-none f) ∙ +ℤ-idr z);
+  few = λ m h. let e : m + 0 ≡ m = omega arith in rw e h;
+}
 
-pub mag-each : (row : List ℤ) (n : ℕ) → n < length row → natAbs (getD row n (pos 0)) ≤ magnitudes row
-mag-each row n h = omega (arith, mag-step row n h, mag-most row (n + 1))
+pub grown-more : {f : ℕ → ℤ} {B n : ℕ} {z₀ z : ℤ} (y : ℤ) → y ≡ f n → natAbs y ≤ B → Grown f B n z₀ z → Grown f B (n + 1) z₀ (z +ℤ y)
+grown-more {f} {B} {n} {z₀} {z} y e h g = record {
+  is =
+      ap (λ (x : ℤ). z +ℤ x) e ∙ ap (λ (x : ℤ). x +ℤ f n) (g .is) ∙ +ℤ-assoc z₀ (sumTo f n) (f n)
+      ∙ ap (λ (x : ℤ). z₀ +ℤ x) (sym (sum-suc f n));
+  few = λ m l.
+      let s : m + (n + 1) ≡ suc (m + n) = omega arith in
+      rw (s, suc-mul (m + n) B) (omega (arith, g .few m l, abs-add z y));
+}
 
--- ---- a row's coefficients, and a component of the line
+-- ---- a row over a component of the line
 
 abbrev pub coefficient : List ℤ → ℕ → ℤ
 coefficient row n = getD row n (pos 0)
 
+-- a coefficient times a number of the line
+abbrev pub term : List ℤ → List ℕ → ℕ → ℤ
+term row kept n = coefficient row n *ℤ lowered (getD kept n 0)
+
+-- a raised number of 32 bits, lowered, is one of 32 bits signed
+pub lowered-fits : (u : ℕ) → u < 4294967296 → SFits w32 (lowered u)
+lowered-fits u h =
+    let d = minus-pn (pos u) (pos 2147483648) in
+    pn-fit {z = lowered u} (omega arith) (omega arith)
+
+pub lowered-small : (u : ℕ) → u < 4294967296 → natAbs (lowered u) ≤ 2147483648
+lowered-small u h = fit-abs (lowered-fits u h)
+
+pub term-small : (row : List ℤ) (kept : List ℕ) (n : ℕ) → natAbs (coefficient row n) ≤ 131071 → getD kept n 0 < 4294967296
+    → natAbs (term row kept n) ≤ 2 ^ 48
+term-small row kept n h x =
+    omega (arith, abs-mul-le (coefficient row n) (lowered (getD kept n 0)) 131071 2147483648 h (lowered-small (getD kept n 0) x))
+
+-- both components
+pub record Added (row : List ℤ) (i q : List ℕ) (n : ℕ) (s₀ s : Sums) : Type 0 where
+  pub in-i : Grown (term row i) (2 ^ 48) n (s₀ .i) (s .i)
+  pub in-q : Grown (term row q) (2 ^ 48) n (s₀ .q) (s .q)
+
+pub added-none : (row : List ℤ) (i q : List ℕ) (s : Sums) → Added row i q 0 s s
+added-none row i q s = record { in-i = grown-none (term row i) (2 ^ 48) (s .i); in-q = grown-none (term row q) (2 ^ 48) (s .q) }
+
+pub added-more : {row : List ℤ} {i q : List ℕ} {n : ℕ} {s₀ s : Sums} → natAbs (coefficient row n) ≤ 131071 → getD i n 0 < 4294967296
+    → getD q n 0 < 4294967296 → Added row i q n s₀ s → Added row i q (n + 1) s₀ (record { i = s .i +ℤ term row i n; q = s .q +ℤ term row q n })
+added-more {row} {i} {q} {n} h x y a = record {
+  in-i = grown-more (term row i n) refl (term-small row i n h x) (a .in-i);
+  in-q = grown-more (term row q n) refl (term-small row q n h y) (a .in-q);
+}
+
+pub added-few : {row : List ℤ} {i q : List ℕ} {n : ℕ} {s₀ s : Sums} → Added row i q n s₀ s → (m : ℕ) → SumsUpto m s₀ → SumsUpto (m + n) s
+added-few a m b = record { i = a .in-i .few m (b .i); q = a .in-q .few m (b .q) }
+
+-- a wider bound
+pub sums-wider : {a b : ℕ} {s : Sums} → a ≤ b → SumsUpto a s → SumsUpto b s
+sums-wider h u = record { i = omega (arith, u .i); q = omega (arith, u .q) }
+
+pub added-all : {row : List ℤ} {i q : List ℕ} {s₀ s : Sums} → Added row i q (length row) s₀ s → s ≡ together s₀ (sumsOver row i q)
+unfolding sumsOver sumOver
+added-all a = λ t. record { i = a .in-i .is t; q = a .in-q .is t }
+
+-- ---- a row of raised coefficients over raised numbers
+
 abbrev pub kept-at : List ℕ → ℕ → ℤ
 kept-at kept n = pos (getD kept n 0)
 
--- the coefficients' own sum
-pub record Weighed (row : List ℤ) (n : ℕ) (z : ℤ) : Type 0 where
-  pub is : z ≡ sumTo (coefficient row) n
-  pub small : natAbs z ≤ magnitudes (take n row)
-
-pub weighed-none : (row : List ℤ) → Weighed row 0 (pos 0)
-weighed-none row = record { is = sym (sum-none (coefficient row)); small = omega arith }
-
-pub weighed-more : (row : List ℤ) (n : ℕ) (z : ℤ) → n < length row → Weighed row n z → Weighed row (n + 1) (z +ℤ coefficient row n)
-weighed-more row n z h w = record {
-  is = ap (λ (y : ℤ). y +ℤ coefficient row n) (w .is) ∙ sym (sum-suc (coefficient row) n);
-  small = omega (arith, w .small, mag-step row n h, abs-add z (coefficient row n));
-}
-
--- ---- sums with the coefficients raised
+abbrev pub raised-term : List ℤ → List ℕ → ℕ → ℤ
+raised-term row kept n = (coefficient row n +ℤ pos 131072) *ℤ kept-at kept n
 
 raised-whole : (c : ℤ) → natAbs c ≤ 131071 → pos (natAbs (c +ℤ pos 131072)) ≡ c +ℤ pos 131072
 raised-whole c h = nonneg-is (c +ℤ pos 131072) (omega (arith, add-pn c (pos 131072), abs-pn c))
@@ -113,100 +168,104 @@ raised-whole c h = nonneg-is (c +ℤ pos 131072) (omega (arith, add-pn c (pos 13
     nonneg-is (pos n) q = refl
     nonneg-is (negsuc n) q = let z : ⊥ = omega arith in absurd z
 
--- the sum of products of raised numbers
-pub record Lifted (row : List ℤ) (kept : List ℕ) (n u : ℕ) : Type 0 where
-  pub is : pos u ≡ sumTo (λ m. (coefficient row m +ℤ pos 131072) *ℤ kept-at kept m) n
-  pub small : u ≤ n * (262143 * 4294967295)
-
-pub lifted-none : (row : List ℤ) (kept : List ℕ) → Lifted row kept 0 0
-lifted-none row kept = record { is = sym (sum-none (λ m. (coefficient row m +ℤ pos 131072) *ℤ kept-at kept m)); small = omega arith }
-
-pub lifted-more : (row : List ℤ) (kept : List ℕ) (n u : ℕ) → natAbs (coefficient row n) ≤ 131071 → getD kept n 0 < 4294967296 → Lifted row kept n u
-    → Lifted row kept (n + 1) (u + natAbs (coefficient row n +ℤ pos 131072) * getD kept n 0)
-lifted-more row kept n u h x l =
+raised-grown : (row : List ℤ) (kept : List ℕ) {n u₀ u : ℕ} → natAbs (coefficient row n) ≤ 131071 → getD kept n 0 < 4294967296
+    → Grown (raised-term row kept) (2 ^ 50) n (pos u₀) (pos u)
+    → Grown (raised-term row kept) (2 ^ 50) (n + 1) (pos u₀) (pos (u + natAbs (coefficient row n +ℤ pos 131072) * getD kept n 0))
+raised-grown row kept {n} h x g =
     let a : natAbs (coefficient row n +ℤ pos 131072) ≤ 262143 = omega (arith, abs-add (coefficient row n) (pos 131072)) in
     let b : getD kept n 0 ≤ 4294967295 = omega arith in
-    record {
-      is =
-          ap (λ (z : ℤ). z +ℤ pos (natAbs (coefficient row n +ℤ pos 131072)) *ℤ kept-at kept n) (l .is)
-          ∙ ap (λ (z : ℤ). sumTo (λ m. (coefficient row m +ℤ pos 131072) *ℤ kept-at kept m) n +ℤ z *ℤ kept-at kept n) (raised-whole (coefficient row n) h)
-          ∙ sym (sum-suc (λ m. (coefficient row m +ℤ pos 131072) *ℤ kept-at kept m) n);
-      small = omega (arith, l .small, mul-le-mul a b);
-    }
+    grown-more (pos (natAbs (coefficient row n +ℤ pos 131072) * getD kept n 0)) (ap (λ (z : ℤ). z *ℤ kept-at kept n) (raised-whole (coefficient row n) h))
+    (omega (arith, mul-le-mul a b)) g
 
--- the line's own sum
-pub record Lined (kept : List ℕ) (n u : ℕ) : Type 0 where
-  pub is : pos u ≡ sumTo (kept-at kept) n
-  pub small : u ≤ n * 4294967295
+-- all that is summed of it
+pub record Taken (row : List ℤ) (i q : List ℕ) (n : ℕ) (s₀ s : Raised) : Type 0 where
+  pub in-i : Grown (raised-term row i) (2 ^ 50) n (pos (s₀ .i)) (pos (s .i))
+  pub in-q : Grown (raised-term row q) (2 ^ 50) n (pos (s₀ .q)) (pos (s .q))
+  pub weight : Grown (coefficient row) (2 ^ 17) n (s₀ .coefficients) (s .coefficients)
+  pub line-i : Grown (kept-at i) (2 ^ 32) n (pos (s₀ .«line_i»)) (pos (s .«line_i»))
+  pub line-q : Grown (kept-at q) (2 ^ 32) n (pos (s₀ .«line_q»)) (pos (s .«line_q»))
 
-pub lined-none : (kept : List ℕ) → Lined kept 0 0
-lined-none kept = record { is = sym (sum-none (kept-at kept)); small = omega arith }
-
-pub lined-more : (kept : List ℕ) (n u : ℕ) → getD kept n 0 < 4294967296 → Lined kept n u → Lined kept (n + 1) (u + getD kept n 0)
-lined-more kept n u x l = record { is = ap (λ (z : ℤ). z +ℤ kept-at kept n) (l .is) ∙ sym (sum-suc (kept-at kept) n); small = omega (arith, l .small) }
-
--- what both raisings add is taken off
-pub lifted-all : (row : List ℤ) (kept : List ℕ) (u v : ℕ) (c : ℤ) → Lifted row kept (length row) u → Lined kept (length row) v → Weighed row (length row) c
-    → pos u -ℤ pos v *ℤ pos 131072 -ℤ c *ℤ pos 2147483648 ≡ sumOver row kept
-unfolding sumOver
-lifted-all row kept u v c l k w =
-    let products : pos u -ℤ pos v *ℤ pos 131072 ≡ sumTo (λ m. coefficient row m *ℤ kept-at kept m) (length row) =
-    ap (λ (z : ℤ). z -ℤ pos v *ℤ pos 131072) (l .is)
-    ∙ ap (λ (z : ℤ). sumTo (λ m. (coefficient row m +ℤ pos 131072) *ℤ kept-at kept m) (length row) -ℤ z *ℤ pos 131072) (k .is)
-    ∙ sym (lower-row (coefficient row) (kept-at kept) (pos 131072) (length row)) in
-    ap (λ (z : ℤ). z -ℤ c *ℤ pos 2147483648) products
-    ∙ ap (λ (z : ℤ). sumTo (λ m. coefficient row m *ℤ kept-at kept m) (length row) -ℤ z *ℤ pos 2147483648) (w .is)
-    ∙ sym (lower-line (coefficient row) (kept-at kept) (pos 2147483648) (length row))
-
--- ---- both components at once
-
--- a row's sums over the first n numbers of both components, and of its first n coefficients
-pub record Taken (row : List ℤ) (i q : List ℕ) (n u v : ℕ) (c : ℤ) : Type 0 where
-  pub in-i : Lifted row i n u
-  pub in-q : Lifted row q n v
-  pub weight : Weighed row n c
-
--- the line's own sums over them
-pub record Level (i q : List ℕ) (n u v : ℕ) : Type 0 where
-  pub in-i : Lined i n u
-  pub in-q : Lined q n v
-
-pub taken-none : (row : List ℤ) (i q : List ℕ) → Taken row i q 0 0 0 (pos 0)
-taken-none row i q = record { in-i = lifted-none row i; in-q = lifted-none row q; weight = weighed-none row }
-
-pub level-none : (i q : List ℕ) → Level i q 0 0 0
-level-none i q = record { in-i = lined-none i; in-q = lined-none q }
-
-pub taken-more : (row : List ℤ) (i q : List ℕ) (n u v : ℕ) (c : ℤ) → n < length row → natAbs (coefficient row n) ≤ 131071 → getD i n 0 < 4294967296
-    → getD q n 0 < 4294967296 → Taken row i q n u v c
-    → Taken row i q (n + 1) (u + natAbs (coefficient row n +ℤ pos 131072) * getD i n 0) (v + natAbs (coefficient row n +ℤ pos 131072) * getD q n 0)
-    (c +ℤ coefficient row n)
-taken-more row i q n u v c h each x y t = record {
-  in-i = lifted-more row i n u each x (t .in-i);
-  in-q = lifted-more row q n v each y (t .in-q);
-  weight = weighed-more row n c h (t .weight);
+pub taken-none : (row : List ℤ) (i q : List ℕ) (s : Raised) → Taken row i q 0 s s
+taken-none row i q s = record {
+  in-i = grown-none (raised-term row i) (2 ^ 50) (pos (s .i));
+  in-q = grown-none (raised-term row q) (2 ^ 50) (pos (s .q));
+  weight = grown-none (coefficient row) (2 ^ 17) (s .coefficients);
+  line-i = grown-none (kept-at i) (2 ^ 32) (pos (s .«line_i»));
+  line-q = grown-none (kept-at q) (2 ^ 32) (pos (s .«line_q»));
 }
 
-pub level-more : (i q : List ℕ) (n u v : ℕ) → getD i n 0 < 4294967296 → getD q n 0 < 4294967296 → Level i q n u v
-    → Level i q (n + 1) (u + getD i n 0) (v + getD q n 0)
-level-more i q n u v x y l = record { in-i = lined-more i n u x (l .in-i); in-q = lined-more q n v y (l .in-q) }
+-- The sums with one tap more.
+abbrev pub oneTapMore : Raised → ℤ → ℕ → ℕ → Raised
+oneTapMore s c x y = record {
+  i = s .i + natAbs (c +ℤ pos 131072) * x;
+  q = s .q + natAbs (c +ℤ pos 131072) * y;
+  coefficients = s .coefficients +ℤ c;
+  «line_i» = s .«line_i» + x;
+  «line_q» = s .«line_q» + y;
+}
 
--- of a light row the coefficients are small, and so are 64 of these sums
-pub light-each : (row : List ℤ) (n : ℕ) → magnitudes row ≤ 131071 → n < length row → natAbs (coefficient row n) ≤ 131071
-light-each row n light h = omega (arith, mag-each row n h)
+pub taken-more : {row : List ℤ} {i q : List ℕ} {n : ℕ} {s₀ s : Raised} → natAbs (coefficient row n) ≤ 131071 → getD i n 0 < 4294967296
+    → getD q n 0 < 4294967296 → Taken row i q n s₀ s → Taken row i q (n + 1) s₀ (oneTapMore s (coefficient row n) (getD i n 0) (getD q n 0))
+taken-more {row} {i} {q} {n} h x y t = record {
+  in-i = raised-grown row i h x (t .in-i);
+  in-q = raised-grown row q h y (t .in-q);
+  weight = grown-more (coefficient row n) refl (omega arith) (t .weight);
+  line-i = grown-more (kept-at i n) refl (omega arith) (t .line-i);
+  line-q = grown-more (kept-at q n) refl (omega arith) (t .line-q);
+}
 
-pub taken-small : (row : List ℤ) (i q : List ℕ) (n u v : ℕ) (c : ℤ) → n ≤ 64 → magnitudes row ≤ 131071 → Taken row i q n u v c
-    → (u ≤ 2 ^ 57) × ((v ≤ 2 ^ 57) × (natAbs c ≤ 131071))
-taken-small row i q n u v c few light t = (omega (arith, t .in-i .small), (omega (arith, t .in-q .small), omega (arith, t .weight .small, mag-most row n)))
+pub taken-few : {row : List ℤ} {i q : List ℕ} {n : ℕ} {s₀ s : Raised} → Taken row i q n s₀ s → (m : ℕ) → RaisedUpto m s₀ → RaisedUpto (m + n) s
+taken-few t m b = record {
+  i = t .in-i .few m (b .i);
+  q = t .in-q .few m (b .q);
+  coefficients = t .weight .few m (b .coefficients);
+  line-i = t .line-i .few m (b .line-i);
+  line-q = t .line-q .few m (b .line-q);
+}
 
-pub level-small : (i q : List ℕ) (n u v : ℕ) → n ≤ 64 → Level i q n u v → (u ≤ 2 ^ 38) × (v ≤ 2 ^ 38)
-level-small i q n u v few l = (omega (arith, l .in-i .small), omega (arith, l .in-q .small))
+pub raised-wider : {a b : ℕ} {s : Raised} → a ≤ b → RaisedUpto a s → RaisedUpto b s
+raised-wider h u = record {
+  i = omega (arith, u .i);
+  q = omega (arith, u .q);
+  coefficients = omega (arith, u .coefficients);
+  line-i = omega (arith, u .line-i);
+  line-q = omega (arith, u .line-q);
+}
 
--- what the raising adds is taken off
-pub taken-all : (row : List ℤ) (i q : List ℕ) (u v : ℕ) (c : ℤ) (a b : ℕ) → Taken row i q (length row) u v c → Level i q (length row) a b
-    → record { i = pos u -ℤ pos a *ℤ pos 131072 -ℤ c *ℤ pos 2147483648; q = pos v -ℤ pos b *ℤ pos 131072 -ℤ c *ℤ pos 2147483648 } ≡ sumsOver row i q
+pub summed-wider : {a b : ℕ} {s : Summed} → a ≤ b → SummedUpto a s → SummedUpto b s
+summed-wider h u = record {
+  detected = record { h = sums-wider h (u .detected .h); g = sums-wider h (u .detected .g) };
+  output = raised-wider h (u .output);
+}
+
+-- what both raisings add, taken off
+lifted-all : (row : List ℤ) (kept : List ℕ) (n : ℕ)
+    → sumTo (raised-term row kept) n -ℤ sumTo (kept-at kept) n *ℤ pos 131072 -ℤ sumTo (coefficient row) n *ℤ pos 2147483648 ≡ sumTo (term row kept) n
+lifted-all row kept n =
+    ap (λ (z : ℤ). z -ℤ sumTo (coefficient row) n *ℤ pos 2147483648) (sym (lower-row (coefficient row) (kept-at kept) (pos 131072) n))
+    ∙ sym (lower-line (coefficient row) (kept-at kept) (pos 2147483648) n)
+
+-- two such sums as one
+both-unraised : (a b c d e f k l : ℤ) → (a +ℤ b) -ℤ (c +ℤ d) *ℤ k -ℤ (e +ℤ f) *ℤ l ≡ (a -ℤ c *ℤ k -ℤ e *ℤ l) +ℤ (b -ℤ d *ℤ k -ℤ f *ℤ l)
+both-unraised a b c d e f k l =
+    (λ t. (a +ℤ b) -ℤ add-mul c d k t -ℤ add-mul e f l t) ∙ ap (λ (z : ℤ). z -ℤ (e *ℤ l +ℤ f *ℤ l)) (sym (swap a (c *ℤ k) b (d *ℤ k)))
+    ∙ sym (swap (a -ℤ c *ℤ k) (e *ℤ l) (b -ℤ d *ℤ k) (f *ℤ l))
+
+unraised-all : (row : List ℤ) (kept : List ℕ) {u₀ v₀ u v : ℕ} {c₀ c : ℤ} → Grown (raised-term row kept) (2 ^ 50) (length row) (pos u₀) (pos u)
+    → Grown (kept-at kept) (2 ^ 32) (length row) (pos v₀) (pos v)
+    → Grown (coefficient row) (2 ^ 17) (length row) c₀ c
+    → unraised u v c ≡ unraised u₀ v₀ c₀ +ℤ sumOver row kept
+unfolding sumOver
+unraised-all row kept {u₀} {v₀} {c₀ = c₀} a b w =
+    (λ t. a .is t -ℤ b .is t *ℤ pos 131072 -ℤ w .is t *ℤ pos 2147483648)
+    ∙ both-unraised (pos u₀) (sumTo (raised-term row kept) (length row)) (pos v₀) (sumTo (kept-at kept) (length row)) c₀
+    (sumTo (coefficient row) (length row)) (pos 131072) (pos 2147483648)
+    ∙ ap (λ (z : ℤ). unraised u₀ v₀ c₀ +ℤ z) (lifted-all row kept (length row))
+
+pub taken-all : {row : List ℤ} {i q : List ℕ} {s₀ s : Raised} → Taken row i q (length row) s₀ s
+    → unraisedSums s ≡ together (unraisedSums s₀) (sumsOver row i q)
 unfolding sumsOver
-taken-all row i q u v c a b t l =
-    let x = lifted-all row i u a c (t .in-i) (l .in-i) (t .weight) in
-    let y = lifted-all row q v b c (t .in-q) (l .in-q) (t .weight) in
+taken-all {row} {i} {q} t =
+    let x = unraised-all row i (t .in-i) (t .line-i) (t .weight) in
+    let y = unraised-all row q (t .in-q) (t .line-q) (t .weight) in
     λ m. record { i = x m; q = y m }

@@ -184,6 +184,8 @@ module _ (s : Sheet) (values : List ℤ) (out₀ : List ℤ) (x₀ : Kept) where
             good = turn .pushes .on .good;
             long-i = turn .long-i ∙ t .begun .long-i;
             long-q = turn .long-q ∙ t .begun .long-q;
+            small-i = turn .pushes .on .small-i;
+            small-q = turn .pushes .on .small-q;
             long-e = turn .long-e ∙ t .begun .long-e;
             long-err = turn .long-err ∙ t .begun .long-err;
           };
@@ -227,6 +229,8 @@ module _ (s : Sheet) (values : List ℤ) (out₀ : List ℤ) (x₀ : Kept) where
       let output : (f : Frontend) → First f → Output (emitted s f (pairsOf values)) out₀ out count =
       λ f first. subst (λ (xs : List Pair). Output (emitted s f xs) out₀ out count) all (t .output f first) in
       record {
+        small-i = t .begun .small-i;
+        small-q = t .begun .small-q;
         counted = λ f first. output f first .counted;
         clipped = λ f first. t .clipped f first ∙ ap (λ (xs : List Pair). clipsOf (emitted s f xs)) all;
         written = λ f first. output f first .places;

@@ -19,7 +19,7 @@ use Rattle.state.specs.Start.{noPair, noPending}
 use Rattle.fixed.specs.Mix.{mixed}
 use Rattle.fixed.specs.Line.{nextHead}
 use Rattle.fixed.specs.Sample.{joined, withSymbol, withoutSymbol, falls, next, after}
-use Rattle.fixed.specs.Inside.{lowered, Laid, Packed, Queued, Kept, Stands}
+use Rattle.fixed.specs.Inside.{pairAt, Laid, Packed, Queued, Kept, Stands}
 use Rattle.fixed.proofs.States.{head-below}
 
 -- ---- the line's places from `taps` on
@@ -61,8 +61,8 @@ pub line-packed : {taps : ℕ} {i q : List ℕ} (old : List Pair) {new packed : 
 line-packed {taps} {i} {q} old {new} {packed} laid rest p = ext-getD noPair packed new (p .long ∙ sym (laid .long)) (λ n h. p .each n ∙ go n (ltb n taps) refl)
   where
     go : (n : ℕ) (b : Bool) → ltb n taps ≡ b
-        → cond (ltb n taps) (record { i = lowered (getD i n 0); q = lowered (getD q n 0) }) (getD old n noPair) ≡ getD new n noPair
-    go n true e = let l = ltb-true n taps e in rw e (λ t. record { i = laid .in-i .once n l t; q = laid .in-q .once n l t })
+        → cond (ltb n taps) (pairAt i q n) (getD old n noPair) ≡ getD new n noPair
+    go n true e = rw e (sym (laid .each n (ltb-true n taps e)))
     go n false e = rw e (sym (rest n (ltb-false n taps e)))
 
 -- the queue

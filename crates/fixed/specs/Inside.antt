@@ -1,12 +1,12 @@
 -- How a block keeps the line and the waiting errors while it runs, and what the functions inside it promise one another.
 -- Nothing of it shows outside: a block is given a state and hands one back (Block.antt).
-use Prim.Native.Nat.{ℕ, _+_, _*_, _≤_, _<_}
+use Prim.Native.Nat.{ℕ, _+_, _*_, _^_, _≤_, _<_}
 use mathlib.Core.Path.{_≡_}
 use mathlib.Core.Bool.{Bool, true, cond}
 use mathlib.Core.List.{List, [], _∷_, _++_}
 use lib.Dec.{ltb}
 use lib.ListN.{length, getD, drop}
-use lib.IntN.{ℤ, pos, _-ℤ_, _*ℤ_}
+use lib.IntN.{ℤ, pos, natAbs, _-ℤ_, _*ℤ_}
 use Rattle.params.specs.Refusal.{nothing}
 use Rattle.params.specs.Banks.{magnitudes, zeroOutside}
 use Rattle.params.specs.Judge.{Sheet, judged}
@@ -18,7 +18,11 @@ use Rattle.state.specs.declared.Pair.{Pair}
 use Rattle.state.specs.declared.Frontend.{Frontend}
 use Rattle.state.specs.declared.Position.{Position}
 use Rattle.state.specs.Start.{ringPlaces, noPair, noPending}
+use Rattle.fixed.specs.declared.filter.Detected.{Detected}
+use Rattle.fixed.specs.declared.filter.Raised.{Raised}
+use Rattle.fixed.specs.declared.filter.Summed.{Summed}
 use Rattle.fixed.specs.Filter.{sumTo}
+use Rattle.fixed.specs.TwoRuns.{together}
 use Rattle.fixed.specs.Sample.{symbolOf, withSymbol, next, madeBy, after, emitted}
 use Rattle.state.specs.Check.{goodState, outline}
 use Rattle.fixed.specs.Block.{pairsOf, flattened, clipsOf}
@@ -29,22 +33,25 @@ use Rattle.fixed.specs.Block.{pairsOf, flattened, clipsOf}
 abbrev pub lowered : ℕ → ℤ
 lowered u = pos u -ℤ pos 2147483648
 
--- One component of the line's first `taps` places, kept twice in a row: so from the newest's position on there are `taps` numbers, newest first, and no wrap.
-pub record Twice (taps : ℕ) (kept : List ℕ) (value : ℕ → ℤ) : Type 0 where
-  pub long : length kept ≡ 128
-  pub once : (n : ℕ) → n < taps → lowered (getD kept n 0) ≡ value n
-  pub again : (n : ℕ) → n < taps → getD kept (n + taps) 0 ≡ getD kept n 0
+-- The first n numbers are below 2^32, as raised numbers of 32 bits are.
+abbrev pub In32 : ℕ → List ℕ → Type 0
+In32 n kept = (m : ℕ) → m < n → getD kept m 0 < 4294967296
 
--- Both components of a line.
+-- The pair at a place, of both components kept apart.
+abbrev pub pairAt : List ℕ → List ℕ → ℕ → Pair
+pairAt i q n = record { i = lowered (getD i n 0); q = lowered (getD q n 0) }
+
+-- The line's first `taps` places so.
 pub record Laid (taps : ℕ) (i q : List ℕ) (line : List Pair) : Type 0 where
+  pub long-i : length i ≡ 64
+  pub long-q : length q ≡ 64
   pub long : length line ≡ 64
-  pub in-i : Twice taps i (λ n. getD line n noPair .i)
-  pub in-q : Twice taps q (λ n. getD line n noPair .q)
+  pub each : (n : ℕ) → n < taps → getD line n noPair ≡ pairAt i q n
 
 -- A line put together of both components: its first `taps` places as they are in these, the others as they were.
 pub record Packed (taps : ℕ) (i q : List ℕ) (line packed : List Pair) : Type 0 where
   pub long : length packed ≡ 64
-  pub each : (n : ℕ) → getD packed n noPair ≡ cond (ltb n taps) (record { i = lowered (getD i n 0); q = lowered (getD q n 0) }) (getD line n noPair)
+  pub each : (n : ℕ) → getD packed n noPair ≡ cond (ltb n taps) (pairAt i q n) (getD line n noPair)
 
 -- ---- the filter
 
@@ -55,21 +62,101 @@ sumOver row kept = sumTo (λ n. getD row n (pos 0) *ℤ lowered (getD kept n 0))
 unfoldable pub sumsOver : List ℤ → List ℕ → List ℕ → Sums
 sumsOver row i q = record { i = sumOver row i; q = sumOver row q }
 
+-- A row that judging accepts, or a part of one.
+pub record Row (row : List ℤ) : Type 0 where
+  pub short : length row ≤ 64
+  pub light : magnitudes row ≤ 131071
+
+-- As many numbers of both components of the line.
+pub record Beside (n : ℕ) (i q : List ℕ) : Type 0 where
+  pub long-i : length i ≡ n
+  pub long-q : length q ≡ n
+  pub small-i : In32 n i
+  pub small-q : In32 n q
+
+-- A row, or a part of one, that is zero outside low..high.
+pub record ZeroOutside (low high : ℕ) (row : List ℤ) : Type 0 where
+  pub front : (n : ℕ) → n < low → getD row n (pos 0) ≡ pos 0
+  pub back : (n : ℕ) → high ≤ n → getD row n (pos 0) ≡ pos 0
+
+-- What a run goes over: its part of each row, as many places of the line, and the detector's places among them.
+pub record RunOver (h g k : List ℤ) (i q : List ℕ) (low high : ℕ) : Type 0 where
+  pub row-h : Row h
+  pub row-g : Row g
+  pub row-k : Row k
+  pub long-h : length h ≡ length k
+  pub long-g : length g ≡ length k
+  pub beside : Beside (length k) i q
+  pub ordered : low ≤ high
+  pub inside : high ≤ length k
+  pub zero-h : ZeroOutside low high h
+  pub zero-g : ZeroOutside low high g
+
+-- What both runs go over: whole rows, of which those of h and g are zero outside the detector's places, and the line with its newest number at `head`.
+pub record Filterable (h g k : List ℤ) (i q : List ℕ) (head : ℕ) : Type 0 where
+  pub row-h : Row h
+  pub row-g : Row g
+  pub row-k : Row k
+  pub long-h : length h ≡ length k
+  pub long-g : length g ≡ length k
+  pub centred-h : zeroOutside (length h) 0 h ≡ true
+  pub centred-g : zeroOutside (length g) 0 g ≡ true
+  pub newest : head < length k
+  pub long-i : length i ≡ 64
+  pub long-q : length q ≡ 64
+  pub small-i : In32 (length k) i
+  pub small-q : In32 (length k) q
+
 -- Sums of a row's raised coefficients over raised numbers, without what the raising has added: 2^17 times the numbers' sum and 2^31 times the coefficients'.
 abbrev pub unraised : ℕ → ℕ → ℤ → ℤ
 unraised raised numbers coefficients = pos raised -ℤ pos numbers *ℤ pos 131072 -ℤ coefficients *ℤ pos 2147483648
 
--- A row that judging accepts, with as many numbers of both components of the line.
-pub record Row (row : List ℤ) (i q : List ℕ) : Type 0 where
-  pub short : length row ≤ 64
-  pub light : magnitudes row ≤ 131071
-  pub beside-i : length i ≡ length row
-  pub beside-q : length q ≡ length row
+abbrev pub unraisedSums : Raised → Sums
+unraisedSums s = record { i = unraised (s .i) (s .«line_i») (s .coefficients); q = unraised (s .q) (s .«line_q») (s .coefficients) }
 
--- A row of the timing detector's: zero outside its places.
-pub record DetectorRow (row : List ℤ) (i q : List ℕ) : Type 0 where
-  pub good : Row row i q
-  pub centred : zeroOutside (length row) 0 row ≡ true
+-- No larger than the sums of n taps can be.
+pub record SumsUpto (n : ℕ) (s : Sums) : Type 0 where
+  pub i : natAbs (s .i) ≤ n * 2 ^ 48
+  pub q : natAbs (s .q) ≤ n * 2 ^ 48
+
+pub record DetectedUpto (n : ℕ) (s : Detected) : Type 0 where
+  pub h : SumsUpto n (s .h)
+  pub g : SumsUpto n (s .g)
+
+pub record RaisedUpto (n : ℕ) (s : Raised) : Type 0 where
+  pub i : s .i ≤ n * 2 ^ 50
+  pub q : s .q ≤ n * 2 ^ 50
+  pub coefficients : natAbs (s .coefficients) ≤ n * 2 ^ 17
+  pub line-i : s .«line_i» ≤ n * 2 ^ 32
+  pub line-q : s .«line_q» ≤ n * 2 ^ 32
+
+pub record SummedUpto (n : ℕ) (s : Summed) : Type 0 where
+  pub detected : DetectedUpto n (s .detected)
+  pub output : RaisedUpto n (s .output)
+
+-- The sums before the first run.
+abbrev pub noneSummed : Summed
+noneSummed =
+    let none : Sums = record { i = pos 0; q = pos 0 } in
+    record { detected = record { h = none; g = none }; output = record { i = 0; q = 0; coefficients = pos 0; «line_i» = 0; «line_q» = 0 } }
+
+-- A run's part of h and g adds its sums to those before it.
+pub record Detects (h g : List ℤ) (i q : List ℕ) (before after : Detected) : Type 0 where
+  pub of-h : after .h ≡ together (before .h) (sumsOver h i q)
+  pub of-g : after .g ≡ together (before .g) (sumsOver g i q)
+  pub few : (n : ℕ) → DetectedUpto n before → DetectedUpto (n + length h) after
+
+-- And its part of k.
+pub record Outputs (k : List ℤ) (i q : List ℕ) (before after : Raised) : Type 0 where
+  pub of-k : unraisedSums after ≡ together (unraisedSums before) (sumsOver k i q)
+  pub few : (n : ℕ) → RaisedUpto n before → RaisedUpto (n + length k) after
+
+-- A run adds the three banks' sums over its own coefficients and places.
+pub record RunAdds (h g k : List ℤ) (i q : List ℕ) (before after : Summed) : Type 0 where
+  pub of-h : after .detected .h ≡ together (before .detected .h) (sumsOver h i q)
+  pub of-g : after .detected .g ≡ together (before .detected .g) (sumsOver g i q)
+  pub of-k : unraisedSums (after .output) ≡ together (unraisedSums (before .output)) (sumsOver k i q)
+  pub few : (n : ℕ) → SummedUpto n before → SummedUpto (n + length k) after
 
 -- ---- the waiting errors
 
@@ -108,12 +195,14 @@ pub record Stands (taps : ℕ) (x : Kept) (f : Frontend) : Type 0 where
   pub waiting : f .waiting ≡ x .position .waiting
   pub samples : f .samples ≡ x .position .samples
 
--- A sheet that is accepted, registers and positions that a block can go on from, and arrays at their sizes.
+-- A sheet that is accepted, registers and positions that a block can go on from, and arrays at their sizes, of numbers that can stand there.
 pub record Begun (s : Sheet) (x : Kept) : Type 0 where
   pub accepted : judged s ≡ nothing
   pub good : goodState (s .params) (outline (x .registers) (x .position)) ≡ true
-  pub long-i : length (x .i) ≡ 128
-  pub long-q : length (x .q) ≡ 128
+  pub long-i : length (x .i) ≡ 64
+  pub long-q : length (x .q) ≡ 64
+  pub small-i : In32 (s .params .taps) (x .i)
+  pub small-q : In32 (s .params .taps) (x .q)
   pub long-e : length (x .e) ≡ ringPlaces
   pub long-err : length (x .err) ≡ ringPlaces
 
@@ -122,12 +211,14 @@ pub record Ready (s : Sheet) (x : Kept) : Type 0 where
   pub begun : Begun s x
   pub room : x .position .samples < 9223372036854775807
 
--- A sheet that is accepted, a position in the line, and both components of the line at their size.
+-- A sheet that is accepted, a position in the line, and both components of the line at their size, of numbers that can stand there.
 pub record Tuned (s : Sheet) (i q : List ℕ) (w : Position) : Type 0 where
   pub accepted : judged s ≡ nothing
   pub head : w .head < s .params .taps
-  pub long-i : length i ≡ 128
-  pub long-q : length q ≡ 128
+  pub long-i : length i ≡ 64
+  pub long-q : length q ≡ 64
+  pub small-i : In32 (s .params .taps) i
+  pub small-q : In32 (s .params .taps) q
 
 -- ---- what a sample and a block leave
 
@@ -135,6 +226,8 @@ pub record Tuned (s : Sheet) (i q : List ℕ) (w : Position) : Type 0 where
 pub record GoesOn (s : Sheet) (x y : Kept) : Type 0 where
   pub good : goodState (s .params) (outline (y .registers) (y .position)) ≡ true
   pub samples : y .position .samples ≡ x .position .samples + 1
+  pub small-i : In32 (s .params .taps) (y .i)
+  pub small-q : In32 (s .params .taps) (y .q)
 
 -- A symbol: it is that of any state which what was kept stands for, and what is kept then stands for this state after it.
 pub record MakesSymbol (s : Sheet) (x y : Kept) (symbol : Symbol) : Type 0 where
@@ -152,8 +245,11 @@ pub record Pushes (s : Sheet) (x y : Kept) (pair : Pair) (made : Bool) (symbol :
   pub makes : (f : Frontend) → Stands (s .params .taps) x f → madeBy s f pair ≡ cond made (symbol ∷ []) []
   pub state : (f : Frontend) → Stands (s .params .taps) x f → Stands (s .params .taps) y (next s f pair)
 
--- All samples of a block: how many symbols they made, the clips of these, what the output then holds, and the state after them.
+-- All samples of a block: how many symbols they made, the clips of these, what the output then holds, and the state after them. The line's numbers are still
+-- such as can stand there.
 pub record Runs (s : Sheet) (x y : Kept) (values out₀ out : List ℤ) (count clips : ℕ) : Type 0 where
+  pub small-i : In32 (s .params .taps) (y .i)
+  pub small-q : In32 (s .params .taps) (y .q)
   pub counted : (f : Frontend) → Stands (s .params .taps) x f → count ≡ length (emitted s f (pairsOf values))
   pub clipped : (f : Frontend) → Stands (s .params .taps) x f → clips ≡ clipsOf (emitted s f (pairsOf values))
   pub written : (f : Frontend) → Stands (s .params .taps) x f → out ≡ flattened (emitted s f (pairsOf values)) ++ drop (20 * count) out₀

@@ -17,19 +17,20 @@ ghost use lib.ListN.{length};
 ghost use Rattle.params.specs.Judge.{sheetOf};
 ghost use Rattle.symbol.specs.Places.{putOf};
 ghost use Rattle.state.specs.Start.{ringPlaces};
-ghost use Rattle.fixed.specs.Inside.{Laid, Packed, Queued, kept, Begun, Runs};
+ghost use Rattle.fixed.specs.Inside.{In32, Laid, Packed, Queued, kept, Begun, Runs};
 
 // ---- the state, taken apart and put together
 
-pub(crate) fn unpack_line(line: [Pair; 64], taps: usize, i: &mut [u32], q: &mut [u32])
-    requires { ⌜ (taps ≤ 64) × ((length (now i) ≡ 128) × (length (now q) ≡ 128)) ⌝ }
-    ensures { λ _. ⌜ Laid taps (now (i .exit)) (now (q .exit)) line ⌝ }
+pub(crate) fn unpack_line(line: [Pair; 64], taps: usize, i: &mut [u64], q: &mut [u64])
+    requires { ⌜ (taps ≤ 64) × ((length (now i) ≡ 64) × (length (now q) ≡ 64)) ⌝ }
+    ensures line { λ _. ⌜ Laid taps (now (i .exit)) (now (q .exit)) line ⌝ }
+    ensures small { λ _. ⌜ In32 taps (now (i .exit)) × In32 taps (now (q .exit)) ⌝ }
 {
     let mut n: usize = 0;
     while n < taps {
         let m = line[n];
-        line::join(&mut *i, taps, n, line::raise(m.i));
-        line::join(&mut *q, taps, n, line::raise(m.q));
+        i[n] = line::raise(m.i);
+        q[n] = line::raise(m.q);
         n += 1;
     }
 }
@@ -50,16 +51,17 @@ pub(crate) fn unpack_pending(pending: [Pending; RING_PLACES], e: &mut [i32], err
 }
 
 // The line with its first `taps` places as they now are; the others keep what they held.
-pub(crate) fn pack_line(line: [Pair; 64], taps: usize, i: &[u32], q: &[u32]) -> [Pair; 64]
-    requires { ⌜ (taps ≤ 64) × ((length (now i) ≡ 128) × (length (now q) ≡ 128)) ⌝ }
+pub(crate) fn pack_line(line: [Pair; 64], taps: usize, i: &[u64], q: &[u64]) -> [Pair; 64]
+    requires { ⌜ (taps ≤ 64) × ((length (now i) ≡ 64) × (length (now q) ≡ 64)) ⌝ }
+    requires { ⌜ In32 taps (now i) × In32 taps (now q) ⌝ }
     ensures { λ r. ⌜ Packed taps (now (i .entry)) (now (q .entry)) line r ⌝ }
 {
     let mut packed = line;
     let mut n: usize = 0;
     while n < taps {
         packed[n] = Pair {
-            i: line::lower(i[n]),
-            q: line::lower(q[n]),
+            i: line::lower(i[n]) as i32,
+            q: line::lower(q[n]) as i32,
         };
         n += 1;
     }
@@ -124,8 +126,8 @@ pub(crate) fn run(
     k: &[i32],
     values: &[i16],
     out: &mut [i64],
-    i: &mut [u32],
-    q: &mut [u32],
+    i: &mut [u64],
+    q: &mut [u64],
     e: &mut [i32],
     err: &mut [i32],
     r: Registers,

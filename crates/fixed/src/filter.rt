@@ -1,145 +1,216 @@
-// The filter: the sums of three rows over the line (RULES 3.7).
+// The filter: the sums of three rows over the line, in two runs (RULES 3.7).
 //
-// The machine multiplies unsigned numbers two at a time. So the numbers of the line come raised by 2^31, and each coefficient is raised here by 2^17. What
-// that adds to a row's sum, 2^31 times the sum of its coefficients and 2^17 times the sum of the line's numbers, is taken off at the end.
+// The line is a ring of `taps` places, whose newest number stands at `head`. The first run goes from there to the end of the line, the second from its
+// beginning up to the newest, so that neither wraps. A row's first taps - head coefficients belong to the first run, the others to the second. Each run adds
+// its own sums to those that it is given.
+//
+// The machine multiplies unsigned numbers two at a time. So the numbers of the line come raised by 2^31, and for the long row, that of k, each coefficient is
+// raised here by 2^17. What that adds to the row's sum, 2^31 times the sum of its coefficients and 2^17 times the sum of the line's numbers, is taken off at
+// the end. The rows of h and g have eight coefficients that count: too few to be worth it.
+use crate::line;
 use symbol::Sums;
 ghost use mathlib.Core.Path.{_≡_};
-ghost use mathlib.Core.List.{_∷_, []};
-ghost use Prim.Native.Nat.{_+_, _*_, _^_, _≤_};
-ghost use lib.IntN.{pos, natAbs, _+ℤ_};
-ghost use Rattle.fixed.specs.Inside.{sumsOver, unraised, Row, DetectorRow};
+ghost use mathlib.Core.List.{List, _∷_, []};
+ghost use Prim.Native.Nat.{_+_, _*_, _^_, _≤_, _<_};
+ghost use lib.ListN.{length};
+ghost use lib.IntN.{natAbs, pos, _+ℤ_, _*ℤ_};
+ghost use Rattle.state.specs.declared.Pair.{Pair};
+ghost use Rattle.fixed.specs.Filter.{sumsOf};
+ghost use Rattle.fixed.specs.Inside.{Laid, Row, Beside, RunOver, Filterable, SumsUpto, DetectedUpto, RaisedUpto, SummedUpto};
+ghost use Rattle.fixed.specs.Inside.{unraisedSums, noneSummed, Detects, Outputs, RunAdds};
 
-// ---- a row's sums, tap by tap
+// ---- rows of h and g
 
-// The sums of a row's raised coefficients over the line, and of the coefficients themselves, as far as they are taken.
+// The sums of a row of h and one of g, as far as they are taken.
+struct Detected {
+    h: Sums,
+    g: Sums,
+}
+
+fn with_products(s: Sums, c: i32, x: i64, y: i64) -> Sums
+    requires { ⌜ SumsUpto 128 s ⌝ }
+    requires { ⌜ (natAbs c ≤ 131071) × ((natAbs x ≤ 2147483648) × (natAbs y ≤ 2147483648)) ⌝ }
+    ensures { λ r. ⌜ r ≡ record { i = s .i +ℤ c *ℤ x; q = s .q +ℤ c *ℤ y } ⌝ }
+{
+    let k = c as i64;
+    Sums {
+        i: s.i + k * x,
+        q: s.q + k * y,
+    }
+}
+
+// They meet the same numbers of the line, so one pass takes both.
+fn detector_run(before: Detected, h: &[i32], g: &[i32], i: &[u64], q: &[u64]) -> Detected
+    requires { ⌜ Row (now h) × (Row (now g) × (length (now g) ≡ length (now h))) ⌝ }
+    requires { ⌜ Beside (length (now h)) (now i) (now q) × DetectedUpto 64 before ⌝ }
+    ensures { λ r. ⌜ Detects (now (h .entry)) (now (g .entry)) (now (i .entry)) (now (q .entry)) before r ⌝ }
+{
+    let mut a = before.h;
+    let mut b = before.g;
+    let mut n: usize = 0;
+    while n < h.len() {
+        let x = line::lower(i[n]);
+        let y = line::lower(q[n]);
+        a = with_products(a, h[n], x, y);
+        b = with_products(b, g[n], x, y);
+        n += 1;
+    }
+    Detected { h: a, g: b }
+}
+
+// ---- a row of k
+
+// The sums of its raised coefficients times the line's numbers, of the coefficients themselves, and of the numbers, as far as they are taken.
 struct Raised {
     i: u64,
     q: u64,
     coefficients: i32,
+    line_i: u64,
+    line_q: u64,
 }
 
-fn no_tap() -> Raised
-    ensures { λ r. ⌜ r ≡ record { i = 0; q = 0; coefficients = pos 0 } ⌝ }
-{
-    Raised {
-        i: 0,
-        q: 0,
-        coefficients: 0,
-    }
-}
-
-fn with_tap(s: Raised, c: i32, x: u32, y: u32) -> Raised
-    requires { ⌜ (natAbs c ≤ 131071) × (natAbs (s .coefficients) ≤ 131071) ⌝ }
-    requires { ⌜ (s .i ≤ 2 ^ 62) × (s .q ≤ 2 ^ 62) ⌝ }
+// The numbers of the line are below 2^32. Their remainders are there for the compiler, which then takes each from the lower half of its 64 bits.
+fn with_tap(s: Raised, c: i32, x: u64, y: u64) -> Raised
+    requires { ⌜ RaisedUpto 128 s ⌝ }
+    requires { ⌜ (natAbs c ≤ 131071) × ((x < 4294967296) × (y < 4294967296)) ⌝ }
     ensures { λ r. ⌜ r ≡ record {
       i = s .i + natAbs (c +ℤ pos 131072) * x;
       q = s .q + natAbs (c +ℤ pos 131072) * y;
       coefficients = s .coefficients +ℤ c;
+      «line_i» = s .«line_i» + x;
+      «line_q» = s .«line_q» + y;
     } ⌝ }
 {
     let k = (c + 131072) as u32 as u64;
     Raised {
-        i: s.i + k * (x as u64),
-        q: s.q + k * (y as u64),
+        i: s.i + k * (x % 0x1_0000_0000),
+        q: s.q + k * (y % 0x1_0000_0000),
         coefficients: s.coefficients + c,
+        line_i: s.line_i + x,
+        line_q: s.line_q + y,
     }
 }
 
-// The sums of the line's own numbers.
-struct Level {
-    i: u64,
-    q: u64,
-}
-
-fn no_pair() -> Level
-    ensures { λ r. ⌜ r ≡ record { i = 0; q = 0 } ⌝ }
+fn output_run(before: Raised, k: &[i32], i: &[u64], q: &[u64]) -> Raised
+    requires { ⌜ Row (now k) × (Beside (length (now k)) (now i) (now q) × RaisedUpto 64 before) ⌝ }
+    ensures { λ r. ⌜ Outputs (now (k .entry)) (now (i .entry)) (now (q .entry)) before r ⌝ }
 {
-    Level { i: 0, q: 0 }
-}
-
-fn with_pair(s: Level, x: u32, y: u32) -> Level
-    requires { ⌜ (s .i ≤ 2 ^ 62) × (s .q ≤ 2 ^ 62) ⌝ }
-    ensures { λ r. ⌜ r ≡ record { i = s .i + x; q = s .q + y } ⌝ }
-{
-    Level {
-        i: s.i + x as u64,
-        q: s.q + y as u64,
+    let mut s = before;
+    let mut n: usize = 0;
+    while n < k.len() {
+        s = with_tap(s, k[n], i[n], q[n]);
+        n += 1;
     }
+    s
 }
 
-// A row's sums without what the raising has added.
-fn lowered(s: Raised, line: Level) -> Sums
-    requires { ⌜ (s .i ≤ 2 ^ 57) × ((s .q ≤ 2 ^ 57) × (natAbs (s .coefficients) ≤ 131071)) ⌝ }
-    requires { ⌜ (line .i ≤ 2 ^ 38) × (line .q ≤ 2 ^ 38) ⌝ }
-    ensures { λ r. ⌜ r ≡ record { i = unraised (s .i) (line .i) (s .coefficients); q = unraised (s .q) (line .q) (s .coefficients) } ⌝ }
+// The row's sums without what the raising has added.
+fn lowered(s: Raised) -> Sums
+    requires { ⌜ RaisedUpto 64 s ⌝ }
+    ensures { λ r. ⌜ r ≡ unraisedSums s ⌝ }
 {
     let raised = (s.coefficients as i64) * 0x8000_0000;
     Sums {
-        i: s.i as i64 - (line.i * 0x2_0000) as i64 - raised,
-        q: s.q as i64 - (line.q * 0x2_0000) as i64 - raised,
+        i: s.i as i64 - (s.line_i * 0x2_0000) as i64 - raised,
+        q: s.q as i64 - (s.line_q * 0x2_0000) as i64 - raised,
     }
 }
 
-// ---- the rows
+// ---- the runs
 
-// The sums of a row of h and one of g. They share the line's numbers, so one pass takes both.
-fn detector_sums(h: &[i32], g: &[i32], i: &[u32], q: &[u32]) -> [Sums; 2]
-    requires { ⌜ Row (now h) (now i) (now q) ⌝ }
-    requires { ⌜ Row (now g) (now i) (now q) ⌝ }
+// What the runs so far have summed.
+struct Summed {
+    detected: Detected,
+    output: Raised,
+}
+
+fn nothing_summed() -> Summed
+    ensures { λ r. ⌜ r ≡ noneSummed ⌝ }
+{
+    let none = Sums { i: 0, q: 0 };
+    Summed {
+        detected: Detected { h: none, g: none },
+        output: Raised {
+            i: 0,
+            q: 0,
+            coefficients: 0,
+            line_i: 0,
+            line_q: 0,
+        },
+    }
+}
+
+// One run: its part of each row, over as many places of the line. The parts of h and g are zero outside low..high, so only these places are summed.
+fn line_run(
+    before: Summed,
+    h: &[i32],
+    g: &[i32],
+    k: &[i32],
+    i: &[u64],
+    q: &[u64],
+    low: usize,
+    high: usize,
+) -> Summed
+    requires { ⌜ RunOver (now h) (now g) (now k) (now i) (now q) low high × SummedUpto 64 before ⌝ }
+    ensures { λ r. ⌜ RunAdds (now (h .entry)) (now (g .entry)) (now (k .entry)) (now (i .entry)) (now (q .entry)) before r ⌝ }
+{
+    let detected = detector_run(
+        before.detected,
+        &h[low..high],
+        &g[low..high],
+        &i[low..high],
+        &q[low..high],
+    );
+    Summed {
+        detected,
+        output: output_run(before.output, k, i, q),
+    }
+}
+
+// The sums of h, g and k, each a row, over the line from its newest number on. Of the detector's places, low..high, each run takes its share.
+pub(crate) fn filter(
+    h: &[i32],
+    g: &[i32],
+    k: &[i32],
+    i: &[u64],
+    q: &[u64],
+    head: usize,
+) -> [Sums; 3]
+    requires { ⌜ Filterable (now h) (now g) (now k) (now i) (now q) head ⌝ }
     ensures { λ r. ⌜
-        r ≡ sumsOver (now (h .entry)) (now (i .entry)) (now (q .entry))
-        ∷ sumsOver (now (g .entry)) (now (i .entry)) (now (q .entry))
-        ∷ [] ⌝ }
+        ((l : List Pair) → Laid (length (now (k .entry))) (now (i .entry)) (now (q .entry)) l
+        → r ≡ sumsOf (length (now (k .entry))) (now (h .entry)) l head
+        ∷ sumsOf (length (now (k .entry))) (now (g .entry)) l head
+        ∷ sumsOf (length (now (k .entry))) (now (k .entry)) l head
+        ∷ []) ⌝ }
 {
-    let mut a = no_tap();
-    let mut b = no_tap();
-    let mut line = no_pair();
-    let mut n: usize = 0;
-    while n < h.len() {
-        let x = i[n];
-        let y = q[n];
-        a = with_tap(a, h[n], x, y);
-        b = with_tap(b, g[n], x, y);
-        line = with_pair(line, x, y);
-        n += 1;
-    }
-    [lowered(a, line), lowered(b, line)]
-}
-
-// The sums of a row of k.
-fn output_sums(k: &[i32], i: &[u32], q: &[u32]) -> Sums
-    requires { ⌜ Row (now k) (now i) (now q) ⌝ }
-    ensures { λ r. ⌜ r ≡ sumsOver (now (k .entry)) (now (i .entry)) (now (q .entry)) ⌝ }
-{
-    let mut s = no_tap();
-    let mut line = no_pair();
-    let mut n: usize = 0;
-    while n < k.len() {
-        let x = i[n];
-        let y = q[n];
-        s = with_tap(s, k[n], x, y);
-        line = with_pair(line, x, y);
-        n += 1;
-    }
-    lowered(s, line)
-}
-
-// The sums of h, g and k, each a row. Those of h and g are zero outside the detector's places, so only these are summed.
-pub(crate) fn filter(h: &[i32], g: &[i32], k: &[i32], i: &[u32], q: &[u32]) -> [Sums; 3]
-    requires { ⌜ DetectorRow (now h) (now i) (now q) ⌝ }
-    requires { ⌜ DetectorRow (now g) (now i) (now q) ⌝ }
-    requires { ⌜ Row (now k) (now i) (now q) ⌝ }
-    ensures { λ r. ⌜
-        r ≡ sumsOver (now (h .entry)) (now (i .entry)) (now (q .entry))
-        ∷ sumsOver (now (g .entry)) (now (i .entry)) (now (q .entry))
-        ∷ sumsOver (now (k .entry)) (now (i .entry)) (now (q .entry))
-        ∷ [] ⌝ }
-{
-    let d = params::detector_of(k.len());
-    let low = d.low;
-    let high = d.high;
-    let s = detector_sums(&h[low..high], &g[low..high], &i[low..high], &q[low..high]);
-    let a = s[0];
-    let b = s[1];
-    [a, b, output_sums(k, i, q)]
+    let taps = k.len();
+    let cut = taps - head;
+    let d = params::detector_of(taps);
+    let low = arith::least(d.low, cut);
+    let high = arith::least(d.high, cut);
+    let first = line_run(
+        nothing_summed(),
+        &h[..cut],
+        &g[..cut],
+        &k[..cut],
+        &i[head..taps],
+        &q[head..taps],
+        low,
+        high,
+    );
+    let both = line_run(
+        first,
+        &h[cut..],
+        &g[cut..],
+        &k[cut..],
+        &i[..head],
+        &q[..head],
+        d.low - low,
+        d.high - high,
+    );
+    let detected = both.detected;
+    let a = detected.h;
+    let b = detected.g;
+    [a, b, lowered(both.output)]
 }

@@ -13,7 +13,7 @@
 //          v = v + R(ki e, ki_shift)                                          within +-integrator_max 2^16
 //          period = nominal + (v >> 16) + R(kp e, kp_shift)                   min to max
 //          acc = acc + (err >> agc_shift)                                     24 bits
-//     b. Filters (filter.rt), over the line newest first, row `phase` of h, g and k:
+//     b. Filters (filter.rt), over the line newest first and in two runs, row `phase` of h, g and k:
 //          three sums each for I and Q                                        64 bits
 //     c. Symbol (crates/symbol):
 //          y, dy, yk = R(sum, 14)                                             16 bits, clipped, and counted where it is
@@ -97,8 +97,8 @@ fn run(
 {
     let taken = state::pairs_taken(values.len(), out.len());
     let taps = p.taps as usize;
-    let mut i = [0u32; 128];
-    let mut q = [0u32; 128];
+    let mut i = [0u64; 64];
+    let mut q = [0u64; 64];
     let mut e = [0i32; RING_PLACES];
     let mut err = [0i32; RING_PLACES];
     let line = f.line;

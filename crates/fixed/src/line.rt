@@ -1,23 +1,24 @@
 // The line of the last mixed samples, as a block keeps it while it runs (RULES 3.4).
 //
-// Each component is an array of its own, in which the `taps` places of the ring stand twice in a row: from the newest's position on, `taps` numbers can then
-// be read, newest first, without a wrap. The numbers are raised by 2^31, so that none is below zero: the machine multiplies unsigned numbers two at a time.
+// Each component is an array of its own, in which it stands once, at the places that the ring has in a state. The numbers are raised by 2^31, so that none is
+// below zero, and have 64 bits each: the machine multiplies unsigned numbers of 32 bits two at a time, and takes each from the lower half of 64 bits.
 ghost use mathlib.Core.Path.{_≡_};
-ghost use Prim.Native.Nat.{_+_, _≤_, _<_};
-ghost use lib.ListN.{length, set};
+ghost use Prim.Native.Nat.{_<_};
 ghost use Rattle.fixed.specs.Line.{nextHead};
 ghost use Rattle.fixed.specs.Inside.{lowered};
 
-pub(crate) fn raise(x: i32) -> u32
-    ensures { λ r. ⌜ lowered r ≡ x ⌝ }
+pub(crate) fn raise(x: i32) -> u64
+    ensures stands { λ r. ⌜ lowered r ≡ x ⌝ }
+    ensures small { λ r. ⌜ r < 4294967296 ⌝ }
 {
-    (x as i64 + 0x8000_0000) as u32
+    (x as i64 + 0x8000_0000) as u64
 }
 
-pub(crate) fn lower(u: u32) -> i32
+pub(crate) fn lower(u: u64) -> i64
+    requires { ⌜ u < 4294967296 ⌝ }
     ensures { λ r. ⌜ r ≡ lowered u ⌝ }
 {
-    (u as i64 - 0x8000_0000) as i32
+    u as i64 - 0x8000_0000
 }
 
 // Where the next sample goes: one position down, and from 0 to the last.
@@ -29,13 +30,4 @@ pub(crate) fn next_head(taps: usize, head: usize) -> usize
         return taps - 1;
     }
     head - 1
-}
-
-// A number joins one component of the line, at both of its places.
-pub(crate) fn join(kept: &mut [u32], taps: usize, head: usize, x: u32)
-    requires { ⌜ (length (now kept) ≡ 128) × ((head < taps) × (taps ≤ 64)) ⌝ }
-    ensures { λ _. ⌜ now (kept .exit) ≡ set (set (now (kept .entry)) head x) (head + taps) x ⌝ }
-{
-    kept[head] = x;
-    kept[head + taps] = x;
 }

@@ -38,8 +38,8 @@ fn sums_at(
     h: &[i32],
     g: &[i32],
     k: &[i32],
-    i: &[u32],
-    q: &[u32],
+    i: &[u64],
+    q: &[u64],
     w: Position,
     phase: usize,
 ) -> [Sums; 3]
@@ -52,9 +52,7 @@ fn sums_at(
     let taps = p.taps as usize;
     let a = phase * taps;
     let b = a + taps;
-    let head = w.head;
-    let end = head + taps;
-    filter::filter(&h[a..b], &g[a..b], &k[a..b], &i[head..end], &q[head..end])
+    filter::filter(&h[a..b], &g[a..b], &k[a..b], i, q, w.head)
 }
 
 // The registers step first: the symbol reports the gain and the period that they then have.
@@ -63,8 +61,8 @@ fn with_symbol(
     h: &[i32],
     g: &[i32],
     k: &[i32],
-    i: &[u32],
-    q: &[u32],
+    i: &[u64],
+    q: &[u64],
     e: &mut [i32],
     err: &mut [i32],
     r: Registers,
@@ -173,8 +171,8 @@ pub(crate) fn push(
     h: &[i32],
     g: &[i32],
     k: &[i32],
-    i: &mut [u32],
-    q: &mut [u32],
+    i: &mut [u64],
+    q: &mut [u64],
     e: &mut [i32],
     err: &mut [i32],
     r: Registers,
@@ -193,8 +191,8 @@ pub(crate) fn push(
     let taps = p.taps as usize;
     let m = mix::mix(cos, r.nco, x, y);
     let head = line::next_head(taps, w.head);
-    line::join(&mut *i, taps, head, line::raise(m.i));
-    line::join(&mut *q, taps, head, line::raise(m.q));
+    i[head] = line::raise(m.i);
+    q[head] = line::raise(m.q);
     let turned = Registers {
         nco: mix::next_nco(r.nco, p.nco_step),
         t_acc: r.t_acc,

@@ -118,7 +118,7 @@ begins : (c : tie.After-position)
 begins c =
     let w = sym (c .position .ensures) in
     record {
-      line = line-out c .unpack-line .ensures;
+      line = line-out c .unpack-line .ensures .0;
       queue = queue-out c .unpack-pending .ensures;
       registers = refl;
       head = ap (λ (x : Position). x .head) w;
@@ -145,8 +145,10 @@ run-requires c κs =
       record {
         accepted = f .judged-so;
         good = outline-good (s .args .p) (s .args .f) (c .position .ensures) ∙ f .good;
-        long-i = b .line .in-i .long;
-        long-q = b .line .in-q .long;
+        long-i = b .line .long-i;
+        long-q = b .line .long-q;
+        small-i = line-out c .unpack-line .ensures .1 .0;
+        small-q = line-out c .unpack-line .ensures .1 .1;
         long-e = b .queue .long-e;
         long-err = b .queue .long-err;
       },
@@ -185,7 +187,8 @@ slice-aggregate-pack-line-2 c = search needs
 pack-line-requires : tie.Need-pack-line-requires
 pack-line-requires c κs =
     let r = c .before .before .before .before .before .before .before .before .before in
-    (ok (start (r .before)) .sheet .lengths .good .most, (ends r .line .in-i .long, ends r .line .in-q .long))
+    let line = ends r .line in
+    ((ok (start (r .before)) .sheet .lengths .good .most, (line .long-i, line .long-q)), (r .run .ensures .small-i, r .run .ensures .small-q))
 
 slice-aggregate-pack-pending : tie.Need-slice-aggregate-pack-pending
 slice-aggregate-pack-pending c = search needs

@@ -1,4 +1,4 @@
--- `fixed::block::unpack_line` meets its contract: after n turns the first n numbers of both components stand in their arrays, each at both of its places.
+-- `fixed::block::unpack_line` meets its contract: after n turns the first n numbers of both components stand in their arrays, raised.
 -- A turn lets one number more join each array (Filling, `laying-next`).
 use Prim.Native.Nat.{_-_, _≤_}
 use mathlib.Core.Path.{_≡_, _∙_}
@@ -14,7 +14,7 @@ use Rattle.fixed.proofs.block.unpack_line.Statement.{statement}
 use Rattle.fixed.proofs.block.unpack_line.Tie as tie
 
 abbrev Inv-loop : tie.InvT-loop
-Inv-loop taps i₀ q₀ line n₀ i q n = (n ≤ taps) × Laying taps (λ m. getD line m noPair .i) n i × Laying taps (λ m. getD line m noPair .q) n q
+Inv-loop taps i₀ q₀ line n₀ i q n = (n ≤ taps) × (Laying (λ m. getD line m noPair .i) n i × Laying (λ m. getD line m noPair .q) n q)
 
 abbrev μ-loop : tie.MeasureT-loop
 μ-loop taps i₀ q₀ line n₀ i q n = taps - n
@@ -22,11 +22,8 @@ abbrev μ-loop : tie.MeasureT-loop
 loop-holds : tie.Need-loop-holds Inv-loop μ-loop
 loop-holds c =
     let a = c .before .before .args in
-    let line = a .t1 in (
-      omega arith,
-      laying-none (a .taps) (λ m. getD line m noPair .i) (a .i .now) (omega arith),
-      laying-none (a .taps) (λ m. getD line m noPair .q) (a .q .now) (omega arith),
-    )
+    let line = a .t1 in
+    (omega arith, (laying-none (λ m. getD line m noPair .i) (a .i .now) (omega arith), laying-none (λ m. getD line m noPair .q) (a .q .now) (omega arith)))
 
 mul-m : tie.Need-mul-m Inv-loop μ-loop
 mul-m c = search needs
@@ -37,14 +34,20 @@ array-copy-out-m c = omega arith
 raise-requires : tie.Need-raise-requires Inv-loop μ-loop
 raise-requires c κs = search needs
 
-join-requires : tie.Need-join-requires Inv-loop μ-loop
-join-requires c κs = omega arith
+mul-i : tie.Need-mul-i Inv-loop μ-loop
+mul-i c = search needs
+
+slice-write-i : tie.Need-slice-write-i Inv-loop μ-loop
+slice-write-i c = omega arith
 
 raise-requires-2 : tie.Need-raise-requires-2 Inv-loop μ-loop
 raise-requires-2 c κs = search needs
 
-join-requires-2 : tie.Need-join-requires-2 Inv-loop μ-loop
-join-requires-2 c κs = omega arith
+mul-q : tie.Need-mul-q Inv-loop μ-loop
+mul-q c = search needs
+
+slice-write-q : tie.Need-slice-write-q Inv-loop μ-loop
+slice-write-q c = omega arith
 
 add-n : tie.Need-add-n Inv-loop μ-loop
 add-n c = search needs
@@ -54,16 +57,19 @@ loop-less c = search needs
 
 loop-again : tie.Need-loop-again Inv-loop μ-loop
 loop-again c =
-    let second = c .before .before in
-    let first = second .before .before .before .before .before .before in
-    let l = first .before .before .before .before .before .before .loop in
-    let m = getD (first .before .before .before .before .before .before .before .before .before .args .t1) (l .n) noPair in
-    let i = first .before .raise in
-    let q = second .before .raise2 in
-    let i-is : lowered (i .result) ≡ m .i = i .ensures ∙ held w32 (m .i) (search (needs, first .before .before)) in
-    let q-is : lowered (q .result) ≡ m .q = q .ensures ∙ held w32 (m .q) (search (needs, second .before .before)) in
-    rw (first .join .ensures, second .join2 .ensures)
-    (omega arith, laying-next (l .inv .1) (i .result) i-is (omega arith) (omega arith), laying-next (l .inv .2) (q .result) q-is (omega arith) (omega arith))
+    let first = c .before .before in
+    let l = first .before .before .before .before .loop in
+    let m = getD (first .before .before .before .before .before .before .before .args .t1) (l .n) noPair in
+    let i = first .raise in
+    let q = c .raise2 in
+    let i-is : lowered (i .result) ≡ m .i = i .ensures .0 ∙ held w32 (m .i) (search (needs, first .before)) in
+    let q-is : lowered (q .result) ≡ m .q = q .ensures .0 ∙ held w32 (m .q) (search (needs, c .before)) in (
+      omega arith,
+      (
+        laying-next (l .inv .1 .0) (i .result) i-is (i .ensures .1) (omega arith),
+        laying-next (l .inv .1 .1) (q .result) q-is (q .ensures .1) (omega arith),
+      ),
+    )
 
 same-length : tie.Need-same-length Inv-loop μ-loop
 same-length c = omega arith
@@ -72,7 +78,12 @@ same-length-2 : tie.Need-same-length-2 Inv-loop μ-loop
 same-length-2 c = omega arith
 
 returns : tie.Need-returns Inv-loop μ-loop
-returns c = let l = c .before .loop in record { long = search needs; in-i = laying-all (l .inv .1) (omega arith); in-q = laying-all (l .inv .2) (omega arith) }
+returns c =
+    let l = c .before .loop in
+    let laid = l .inv .1 in (
+      laying-all (search needs) (omega arith) (laid .0) (laid .1),
+      (λ m h. laid .0 .small m (omega arith), λ m h. laid .1 .small m (omega arith)),
+    )
 
 pub unpack-line-spec : {M : Type 1} → statement M
 unpack-line-spec =
@@ -84,9 +95,11 @@ unpack-line-spec =
     mul-m
     array-copy-out-m
     raise-requires
-    join-requires
+    mul-i
+    slice-write-i
     raise-requires-2
-    join-requires-2
+    mul-q
+    slice-write-q
     add-n
     loop-less
     loop-again

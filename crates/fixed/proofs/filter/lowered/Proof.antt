@@ -1,4 +1,4 @@
--- `fixed::filter::lowered` meets its contract: the sums of 64 taps at most stay below 2^57, and what is taken off them below 2^58.
+-- `fixed::filter::lowered` meets its contract: the sums of 64 taps at most stay within 2^56, and so does what is taken off them.
 -- So every number fits 64 bits signed, and the code computes what it says.
 use Prim.Native.Nat.{ℕ, _*_, _^_, _≤_, _<_}
 use mathlib.Core.Path.{_≡_}
@@ -18,16 +18,16 @@ use Rattle.fixed.proofs.filter.lowered.Tie as tie
 unsigned-is : (n : ℕ) → n < 2 ^ 63 → toZ w64 n ≡ pos n
 unsigned-is n h = toZ-pos w64 h
 
-raised-small : (c : ℤ) → natAbs c ≤ 131071 → natAbs (c *ℤ pos 2147483648) ≤ 2 ^ 48
+raised-small : (c : ℤ) → natAbs c ≤ 64 * 2 ^ 17 → natAbs (c *ℤ pos 2147483648) ≤ 2 ^ 54
 raised-small c h = omega (arith, abs-mul c (pos 2147483648))
 
-coefficients-is : (c : ℤ) → natAbs c ≤ 131071 → toZ w64 (ofZ w64 (toZ w32 (ofZ w32 c))) ≡ c
+coefficients-is : (c : ℤ) → natAbs c ≤ 64 * 2 ^ 17 → toZ w64 (ofZ w64 (toZ w32 (ofZ w32 c))) ≡ c
 coefficients-is c h = rw (back w32 c (omega arith)) (back w64 c (omega arith))
 
-raised-is : (c : ℤ) → natAbs c ≤ 131071 → toZ w64 (ofZ w64 (toZ w64 (ofZ w64 (toZ w32 (ofZ w32 c))) *ℤ pos 2147483648)) ≡ c *ℤ pos 2147483648
+raised-is : (c : ℤ) → natAbs c ≤ 64 * 2 ^ 17 → toZ w64 (ofZ w64 (toZ w64 (ofZ w64 (toZ w32 (ofZ w32 c))) *ℤ pos 2147483648)) ≡ c *ℤ pos 2147483648
 raised-is c h = rw (coefficients-is c h) (back w64 (c *ℤ pos 2147483648) (omega (arith, raised-small c h)))
 
-module _ (u v : ℕ) (hu : u ≤ 2 ^ 57) (hv : v ≤ 2 ^ 38) where
+module _ (u v : ℕ) (hu : u ≤ 64 * 2 ^ 50) (hv : v ≤ 64 * 2 ^ 32) where
   abbrev level : ℤ
   level = pos u -ℤ pos v *ℤ pos 131072
 
@@ -43,15 +43,15 @@ module _ (u v : ℕ) (hu : u ≤ 2 ^ 57) (hv : v ≤ 2 ^ 38) where
   level-fits : SFits w64 (toZ w64 u -ℤ toZ w64 (v * 131072))
   level-fits = rw level-is (sfit {z = level} (omega (arith, level-small)))
 
-  rest-fits : (c : ℤ) → natAbs c ≤ 131071 → SFits w64 (level -ℤ c *ℤ pos 2147483648)
+  rest-fits : (c : ℤ) → natAbs c ≤ 64 * 2 ^ 17 → SFits w64 (level -ℤ c *ℤ pos 2147483648)
   rest-fits c h = sfit {z = level -ℤ c *ℤ pos 2147483648} (omega (arith, abs-minus level (c *ℤ pos 2147483648), level-small, raised-small c h))
 
-  rest-is : (c : ℤ) → natAbs c ≤ 131071
+  rest-is : (c : ℤ) → natAbs c ≤ 64 * 2 ^ 17
       → toZ w64 (ofZ w64 (toZ w64 u -ℤ toZ w64 (v * 131072))) -ℤ toZ w64
       (ofZ w64 (toZ w64 (ofZ w64 (toZ w32 (ofZ w32 c))) *ℤ pos 2147483648)) ≡ level -ℤ c *ℤ pos 2147483648
   rest-is c h = rw (level-back, raised-is c h)
 
-  all : (c : ℤ) → natAbs c ≤ 131071
+  all : (c : ℤ) → natAbs c ≤ 64 * 2 ^ 17
       → toZ w64 (ofZ w64 (toZ w64 (ofZ w64 (toZ w64 u -ℤ toZ w64 (v * 131072))) -ℤ toZ w64
       (ofZ w64 (toZ w64 (ofZ w64 (toZ w32 (ofZ w32 c))) *ℤ pos 2147483648)))) ≡ level -ℤ c *ℤ pos 2147483648
   all c h = rw (rest-is c h) (toZ-ofZ (rest-fits c h))
@@ -61,62 +61,59 @@ module _ (u v : ℕ) (hu : u ≤ 2 ^ 57) (hv : v ≤ 2 ^ 38) where
 cast-raised : tie.Need-cast-raised
 cast-raised c =
     let s = c .before .before .args .s in
-    let h = c .before .before .pre .0 .1 .1 in
+    let h = c .before .before .pre .coefficients in
     rw (back w32 (s .coefficients) (omega arith)) (sfit {z = s .coefficients} (omega arith))
 
 mul-raised : tie.Need-mul-raised
 mul-raised c =
     let s = c .before .before .args .s in
-    let h = c .before .before .pre .0 .1 .1 in
+    let h = c .before .before .pre .coefficients in
     rw (coefficients-is (s .coefficients) h) (sfit {z = s .coefficients *ℤ pos 2147483648} (omega (arith, raised-small (s .coefficients) h)))
 
-cast-t4 : tie.Need-cast-t4
-cast-t4 c = search needs
+cast-t3 : tie.Need-cast-t3
+cast-t3 c = search needs
 
-mul-t5 : tie.Need-mul-t5
-mul-t5 c = search needs
+mul-t4 : tie.Need-mul-t4
+mul-t4 c = search needs
 
-cast-t6 : tie.Need-cast-t6
-cast-t6 c = search needs
+cast-t5 : tie.Need-cast-t5
+cast-t5 c = search needs
+
+sub-t6 : tie.Need-sub-t6
+sub-t6 c = let a = c .before .before .before .before in level-fits (a .args .s .i) (a .args .s .«line_i») (a .pre .i) (a .pre .line-i)
 
 sub-t7 : tie.Need-sub-t7
-sub-t7 c = let a = c .before .before .before .before in level-fits (a .args .s .i) (a .args .line .i) (a .pre .0 .0) (a .pre .1 .0)
-
-sub-t8 : tie.Need-sub-t8
-sub-t8 c =
+sub-t7 c =
     let a = c .before .before .before .before in
     let s = a .args .s in
-    let h = a .pre .0 .1 .1 in
-    rw (rest-is (s .i) (a .args .line .i) (a .pre .0 .0) (a .pre .1 .0) (s .coefficients) h)
-    (rest-fits (s .i) (a .args .line .i) (a .pre .0 .0) (a .pre .1 .0) (s .coefficients) h)
+    rw (rest-is (s .i) (s .«line_i») (a .pre .i) (a .pre .line-i) (s .coefficients) (a .pre .coefficients))
+    (rest-fits (s .i) (s .«line_i») (a .pre .i) (a .pre .line-i) (s .coefficients) (a .pre .coefficients))
 
-cast-t9 : tie.Need-cast-t9
-cast-t9 c = search needs
+cast-t8 : tie.Need-cast-t8
+cast-t8 c = search needs
 
-mul-t10 : tie.Need-mul-t10
-mul-t10 c = search needs
+mul-t9 : tie.Need-mul-t9
+mul-t9 c = search needs
 
-cast-t11 : tie.Need-cast-t11
-cast-t11 c = search needs
+cast-t10 : tie.Need-cast-t10
+cast-t10 c = search needs
+
+sub-t11 : tie.Need-sub-t11
+sub-t11 c = let a = c .before .before .before .before .before .before in level-fits (a .args .s .q) (a .args .s .«line_q») (a .pre .q) (a .pre .line-q)
 
 sub-t12 : tie.Need-sub-t12
-sub-t12 c = let a = c .before .before .before .before .before .before in level-fits (a .args .s .q) (a .args .line .q) (a .pre .0 .1 .0) (a .pre .1 .1)
-
-sub-t13 : tie.Need-sub-t13
-sub-t13 c =
+sub-t12 c =
     let a = c .before .before .before .before .before .before in
     let s = a .args .s in
-    let h = a .pre .0 .1 .1 in
-    rw (rest-is (s .q) (a .args .line .q) (a .pre .0 .1 .0) (a .pre .1 .1) (s .coefficients) h)
-    (rest-fits (s .q) (a .args .line .q) (a .pre .0 .1 .0) (a .pre .1 .1) (s .coefficients) h)
+    rw (rest-is (s .q) (s .«line_q») (a .pre .q) (a .pre .line-q) (s .coefficients) (a .pre .coefficients))
+    (rest-fits (s .q) (s .«line_q») (a .pre .q) (a .pre .line-q) (s .coefficients) (a .pre .coefficients))
 
 returns : tie.Need-returns
 returns c =
     let a = c .before .before .before .before .before .before in
     let s = a .args .s in
-    let h = a .pre .0 .1 .1 in
-    let i = all (s .i) (a .args .line .i) (a .pre .0 .0) (a .pre .1 .0) (s .coefficients) h in
-    let q = all (s .q) (a .args .line .q) (a .pre .0 .1 .0) (a .pre .1 .1) (s .coefficients) h in
+    let i = all (s .i) (s .«line_i») (a .pre .i) (a .pre .line-i) (s .coefficients) (a .pre .coefficients) in
+    let q = all (s .q) (s .«line_q») (a .pre .q) (a .pre .line-q) (s .coefficients) (a .pre .coefficients) in
     λ t. record { i = i t; q = q t }
 
 pub lowered-spec : {M : Type 1} → statement M
@@ -125,14 +122,14 @@ lowered-spec =
     (tie.spec
     cast-raised
     mul-raised
-    cast-t4
-    mul-t5
-    cast-t6
+    cast-t3
+    mul-t4
+    cast-t5
+    sub-t6
     sub-t7
-    sub-t8
-    cast-t9
-    mul-t10
-    cast-t11
+    cast-t8
+    mul-t9
+    cast-t10
+    sub-t11
     sub-t12
-    sub-t13
     returns)

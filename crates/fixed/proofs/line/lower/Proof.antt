@@ -1,35 +1,29 @@
--- `fixed::line::lower` meets its contract: a number below 2^32, less 2^31, is one of 32 bits signed.
--- So neither the difference nor the cast loses anything.
+-- `fixed::line::lower` meets its contract: a number below 2^32 is the same as 64 bits signed, and less 2^31 it is one of 32 bits signed.
+-- So neither the cast nor the difference loses anything.
+use Prim.Native.Nat.{ℕ, _<_}
+use mathlib.Core.Path.{_≡_}
 use native.Mathlib.Omega.{arith}
-use lib.IntN.{pos}
-use mir.Syntax.{w32}
-use mir.Val.{SFits}
-use mir.Facts.{sfits-widen}
+use mir.Syntax.{w32, w64}
+use mir.Val.{SFits, toZ}
+use mir.Facts.{toZ-ofZ, sfits-widen}
 use borrow.Author.Needs.{needs}
-use Rattle.arith.proofs.Order.{minus-pn, pn-fit}
 use Rattle.arith.proofs.Bits.{whole}
 use Rattle.fixed.specs.Inside.{lowered}
-use Rattle.arith.proofs.Widths.{narrows, narrowed}
+use Rattle.fixed.proofs.RowSums.{lowered-fits}
 use Rattle.fixed.proofs.line.lower.Statement.{statement}
 use Rattle.fixed.proofs.line.lower.Tie as tie
 
--- from -2^31 to 2^31 - 1
-fits : (c : tie.Start) → SFits w32 (lowered (c .args .u))
-fits c =
-    let d = minus-pn (pos (c .args .u)) (pos 2147483648) in
-    pn-fit {z = lowered (c .args .u)} (omega (arith, c .fits .u)) (omega arith)
+fits : (c : tie.Start) → SFits w64 (lowered (c .args .u))
+fits c = sfits-widen {w = w32} tt (lowered-fits (c .args .u) (c .pre))
 
 cast-result : tie.Need-cast-result
 cast-result c = search needs
 
 sub-result : tie.Need-sub-result
-sub-result c = rw (whole (c .args .u) (c .fits .u)) (sfits-widen tt (fits c))
-
-cast-result-2 : tie.Need-cast-result-2
-cast-result-2 c = rw (whole (c .args .u) (c .fits .u)) (narrows tt (fits c))
+sub-result c = rw (whole (c .args .u) (record { fits = c .pre })) (fits c)
 
 returns : tie.Need-returns
-returns c = rw (whole (c .args .u) (c .fits .u)) (narrowed tt (fits c))
+returns c = rw (whole (c .args .u) (record { fits = c .pre })) (toZ-ofZ (fits c))
 
 pub lower-spec : {M : Type 1} → statement M
-lower-spec = tie.close (tie.spec cast-result sub-result cast-result-2 returns)
+lower-spec = tie.close (tie.spec cast-result sub-result returns)

@@ -4,7 +4,7 @@ use Prim.Native.Nat.{_+_, _^_, _≤_, _<_}
 use mathlib.Core.Path.{_≡_}
 use native.Mathlib.Omega.{arith}
 use lib.IntN.{ℤ, pos, natAbs, _+ℤ_}
-use mir.Syntax.{w32, w64}
+use mir.Syntax.{w64}
 use mir.Val.{SFits}
 use mir.Facts.{toZ-ofZ}
 use Rattle.arith.proofs.Order.{P, N, add-pn, minus-pn, nat-pn, fit-pn, pn-fit, eq-pn, unsign}
@@ -31,7 +31,7 @@ add-result : tie.Need-add-result
 add-result c = simp (widened w64 tt (c .fits .x)) (fits c)
 
 cast-result-2 : tie.Need-cast-result-2
-cast-result-2 c = let r = range c in simp (widened w64 tt (c .fits .x), toZ-ofZ (fits c)) (unsign w32 (sum c) (r .0) (r .1))
+cast-result-2 c = let r = range c in simp (widened w64 tt (c .fits .x), toZ-ofZ (fits c)) (unsign w64 (sum c) (r .0) (omega (arith, r .1)))
 
 -- lowered, it is the number again
 back-down : (c : tie.Start) → lowered (natAbs (sum c)) ≡ c .args .x
@@ -40,8 +40,11 @@ back-down c =
     eq-pn (lowered (natAbs (sum c))) (c .args .x)
     (omega (arith, add-pn (c .args .x) (pos 2147483648), minus-pn (pos (natAbs (sum c))) (pos 2147483648)))
 
+small : (c : tie.Start) → natAbs (sum c) < 4294967296
+small c = let r = range c in omega (arith, nat-pn (sum c) (r .0))
+
 returns : tie.Need-returns
-returns c = simp (widened w64 tt (c .fits .x), toZ-ofZ (fits c)) (back-down c)
+returns c = simp (widened w64 tt (c .fits .x), toZ-ofZ (fits c)) (back-down c, small c)
 
 pub raise-spec : {M : Type 1} → statement M
 raise-spec = tie.close (tie.spec cast-result add-result cast-result-2 returns)

@@ -1,6 +1,6 @@
 -- `fixed::sample::push` meets its contract: what is kept once the sample was mixed and joined stands for the state with the sample joined (Kept).
 -- The test that decides whether a symbol is made is the one on the state, since the time is the state's.
-use Prim.Native.Nat.{ℕ, _+_}
+use Prim.Native.Nat.{ℕ, _<_}
 use mathlib.Core.Path.{_≡_, sym, ap, subst, _∙_}
 use mathlib.Core.Bool.{Bool, true, false, true≢false}
 use mathlib.Core.List.{List}
@@ -21,7 +21,6 @@ use Rattle.state.specs.declared.Pair.{Pair}
 use Rattle.state.specs.declared.Position.{Position}
 use Rattle.state.specs.declared.Frontend.{Frontend}
 use Rattle.fixed.specs.Mix.{mixed, nextNco}
-use Rattle.fixed.specs.Line.{nextHead}
 use Rattle.fixed.specs.Sample.{joined, withoutSymbol, falls}
 use Rattle.fixed.specs.Inside.{lowered, Kept, kept, Stands, Ready, GoesOn}
 use Rattle.state.specs.Check.{outline}
@@ -67,20 +66,24 @@ next-head-requires c κs = going-at (c .before .before .before .before) .head
 raise-requires : tie.Need-raise-requires
 raise-requires c κs = search needs
 
-join-requires : tie.Need-join-requires
-join-requires c κs =
-    let b = c .before .before .before .before .before .before .before .before in
-    let fits = head-fits (b .pre .1) in
-    (b .pre .1 .begun .long-i, (rw (c .before .before .before .next-head .ensures) (fits .0), fits .1))
+-- the sample's place lies within the line, and the line within its arrays
+inside : (c : tie.After-next-head) → c .next-head .result < 64
+inside c = let fits = head-fits (c .before .before .before .before .before .pre .1) in subst (λ (n : ℕ). n < 64) (sym (c .next-head .ensures)) (omega (arith, fits .0, fits .1))
+
+mul-i : tie.Need-mul-i
+mul-i c = record { fits = omega (arith, inside (c .before .before)) }
+
+slice-write-i : tie.Need-slice-write-i
+slice-write-i c = let h = c .before .before in omega (arith, inside h, h .before .before .before .before .before .pre .1 .begun .long-i)
 
 raise-requires-2 : tie.Need-raise-requires-2
 raise-requires-2 c κs = search needs
 
-join-requires-2 : tie.Need-join-requires-2
-join-requires-2 c κs =
-    let b = c .before .before .before .before .before .before .before .before .before .before .before .before .before .before in
-    let fits = head-fits (b .pre .1) in
-    (b .pre .1 .begun .long-q, (rw (c .before .before .before .before .before .before .before .before .before .next-head .ensures) (fits .0), fits .1))
+mul-q : tie.Need-mul-q
+mul-q c = record { fits = omega (arith, inside (c .before .before .before .before)) }
+
+slice-write-q : tie.Need-slice-write-q
+slice-write-q c = let h = c .before .before .before .before in omega (arith, inside h, h .before .before .before .before .before .pre .1 .begun .long-q)
 
 next-nco-requires : tie.Need-next-nco-requires
 next-nco-requires c κs = search needs
@@ -89,14 +92,14 @@ module _ (c : tie.After-struct-told5) where
   abbrev nco-at : tie.After-next-nco
   nco-at = c .before .before .before
 
-  abbrev second : tie.After-join2
-  second = nco-at .before .before .before .before
+  abbrev second : tie.After-raise2
+  second = nco-at .before .before
 
-  abbrev first : tie.After-join
-  first = second .before .before .before .before .before .before
+  abbrev first : tie.After-raise
+  first = second .before .before
 
   abbrev head-at : tie.After-next-head
-  head-at = first .before .before .before .before
+  head-at = first .before .before
 
   abbrev b : tie.Start
   b = head-at .before .before .before .before .before
@@ -104,14 +107,14 @@ module _ (c : tie.After-struct-told5) where
   mix-is : head-at .before .mix .result ≡ mixed (b .args .r .nco) (pair b)
   mix-is = simp (toZ-ofZ (b .fits .x), toZ-ofZ (b .fits .y)) at (head-at .before .mix .ensures)
 
-  raised-i : lowered (first .before .raise .result) ≡ mixed (b .args .r .nco) (pair b) .i
+  raised-i : lowered (first .raise .result) ≡ mixed (b .args .r .nco) (pair b) .i
   raised-i =
-      first .before .raise .ensures ∙ held w32 (head-at .before .mix .result .i) (first .before .before .struct-told .given .0 .1)
+      first .raise .ensures .0 ∙ held w32 (head-at .before .mix .result .i) (first .before .struct-told .given .0 .1)
       ∙ ap (λ (m : Pair). m .i) mix-is
 
-  raised-q : lowered (second .before .raise2 .result) ≡ mixed (b .args .r .nco) (pair b) .q
+  raised-q : lowered (second .raise2 .result) ≡ mixed (b .args .r .nco) (pair b) .q
   raised-q =
-      second .before .raise2 .ensures ∙ held w32 (head-at .before .mix .result .q) (second .before .before .struct-told2 .given .1 .0 .1)
+      second .raise2 .ensures .0 ∙ held w32 (head-at .before .mix .result .q) (second .before .struct-told2 .given .1 .0 .1)
       ∙ ap (λ (m : Pair). m .q) mix-is
 
   nco-is : nco-at .next-nco .result ≡ nextNco (b .args .p) (b .args .r .nco)
@@ -135,33 +138,30 @@ module _ (c : tie.After-struct-told5) where
   joinedAt = let w = b .args .w in record { head = head-at .next-head .result; oldest = w .oldest; waiting = w .waiting; samples = w .samples }
 
   abbrev y : Kept
-  y = kept (first .join .last .0) (second .join2 .last .0) (b .args .e .now) (b .args .err .now) turned joinedAt
+  y =
+      let head = head-at .next-head .result in
+      kept (set (b .args .i .now) head (first .raise .result)) (set (b .args .q .now) head (second .raise2 .result)) (b .args .e .now) (b .args .err .now)
+      turned joinedAt
 
-  -- a component of the line, as the definition has it and as it is
-  laid : (old : List ℕ) (value : ℕ) {new : List ℕ}
-      → let head : ℕ = head-at .next-head .result in
-      new ≡ set (set old head value) (head + b .args .p .taps) value
-      → let head : ℕ = nextHead (b .args .p .taps) (b .args .w .head) in
-      set (set old head value) (head + b .args .p .taps) value ≡ new
-  laid old value e = ap (λ (n : ℕ). set (set old n value) (n + b .args .p .taps) value) (sym (head-at .next-head .ensures)) ∙ sym e
-
-  kept-is : keptJoined (b .pre .1) (first .before .raise .result) (second .before .raise2 .result) ≡ y
+  kept-is : keptJoined (b .pre .1) (first .raise .result) (second .raise2 .result) ≡ y
   kept-is =
+      let a = b .args in
       let r = b .args .r in
       let w = b .args .w in
-      let line-i = laid (b .args .i .now) (first .before .raise .result) (first .join .ensures) in
-      let line-q = laid (b .args .q .now) (second .before .raise2 .result) (second .join2 .ensures) in
-      λ t. kept (line-i t) (line-q t) (b .args .e .now) (b .args .err .now)
+      let head = sym (head-at .next-head .ensures) in
+      λ t. kept (set (a .i .now) (head t) (first .raise .result)) (set (a .q .now) (head t) (second .raise2 .result)) (a .e .now) (a .err .now)
       (record { nco = sym nco-is t; «t_acc» = sym (time-is b) t; v = sym (v-is b) t; period = r .period; «gain_acc» = r .«gain_acc»; symbols = r .symbols })
-      (record { head = sym (head-at .next-head .ensures) t; oldest = w .oldest; waiting = w .waiting; samples = w .samples })
+      (record { head = head t; oldest = w .oldest; waiting = w .waiting; samples = w .samples })
 
   ready-now : Ready (sheet b) y
-  ready-now = subst (Ready (sheet b)) kept-is (ready-joined (b .pre .1) (first .before .raise .result) (second .before .raise2 .result))
+  ready-now =
+      subst (Ready (sheet b)) kept-is
+      (ready-joined (b .pre .1) (first .raise .result) (second .raise2 .result) (first .raise .ensures .1) (second .raise2 .ensures .1))
 
   stands-now : (f : Frontend) → Stands (b .args .p .taps) (x b) f → Stands (b .args .p .taps) y (joined (sheet b) f (pair b))
   stands-now f stands =
       subst (λ (z : Kept). Stands (b .args .p .taps) z (joined (sheet b) f (pair b))) kept-is
-      (stands-joined (b .pre .1) f stands (pair b) (first .before .raise .result) (second .before .raise2 .result) raised-i raised-q)
+      (stands-joined (b .pre .1) f stands (pair b) (first .raise .result) (second .raise2 .result) raised-i raised-q)
 
   -- the test on the time is the state's
   falls-is : (f : Frontend) (t : Bool) → Stands (b .args .p .taps) (x b) f → ltZ (in64 (b .args .r .«t_acc»)) one ≡ t → falls f ≡ t
@@ -175,10 +175,10 @@ with-symbol-requires c κs =
     (ready-now d, c .before .before .before .before .if1 .taken)
 
 same-length : tie.Need-same-length
-same-length c = first (c .before .before .before .before .before .before .before .before) .join .kept .0
+same-length c = search needs
 
 same-length-2 : tie.Need-same-length-2
-same-length-2 c = second (c .before .before .before .before .before .before .before .before) .join2 .kept .0
+same-length-2 c = search needs
 
 same-length-3 : tie.Need-same-length-3
 same-length-3 c = search needs
@@ -197,7 +197,7 @@ returns c =
     kept (y d .i) (y d .q) (w .with-symbol .last .1 .1 .1 .1 .1 .1 .0) (w .with-symbol .last .1 .1 .1 .1 .1 .1 .1 .0) (w .with-symbol .result .registers)
     (w .with-symbol .result .position) in
     record {
-      on = record { good = makes .on .good; samples = makes .on .samples };
+      on = record { good = makes .on .good; samples = makes .on .samples; small-i = makes .on .small-i; small-q = makes .on .small-q };
       sample = λ m. makes .sample;
       few-clips = λ m. makes .few-clips;
       makes = λ f stands.
@@ -216,7 +216,7 @@ without-symbol-requires c κs =
     (rw (time-is b) (omega (arith, going-at b .soon)), b .pre .1 .room)
 
 same-length-5 : tie.Need-same-length-5
-same-length-5 c = first (c .before .before) .join .kept .0
+same-length-5 c = search needs
 
 same-length-6 : tie.Need-same-length-6
 same-length-6 c = search needs
@@ -231,7 +231,7 @@ returns-2 c =
     let kept-so : keptWithout (y d) ≡ z = λ t. kept (y d .i) (y d .q) (y d .e) (y d .err) (sym (e .0) t) (sym (e .1 .0) t) in
     let on = subst (GoesOn (sheet (b d)) (y d)) kept-so (without-symbol-on (ready-now d) test) in
     record {
-      on = record { good = on .good; samples = on .samples };
+      on = record { good = on .good; samples = on .samples; small-i = on .small-i; small-q = on .small-q };
       sample = λ made. absurd (true≢false (sym made ∙ e .1 .1));
       few-clips = λ made. absurd (true≢false (sym made ∙ e .1 .1));
       makes = λ f stands. made-without (sheet (b d)) f (pair (b d)) (out .made) (out .symbol) (falls-is d f false stands test) (e .1 .1);
@@ -249,9 +249,11 @@ push-spec =
     mix-requires
     next-head-requires
     raise-requires
-    join-requires
+    mul-i
+    slice-write-i
     raise-requires-2
-    join-requires-2
+    mul-q
+    slice-write-q
     next-nco-requires
     with-symbol-requires
     same-length

@@ -1,22 +1,21 @@
 -- `fixed::sample::sums_at` meets its contract: the parts of the banks that go to the filter are the phase's rows of an accepted sheet, as the filter takes
--- them. Those of the line are the windows over which a row's sums are its sums over the line, newest first (Windows).
+-- them (PhaseRows). What it answers are the definition's sums of these rows.
 use Prim.Native.Nat.{ℕ, _+_, _*_, _≤_}
-use mathlib.Core.Path.{_≡_, _∙_}
-use mathlib.Core.Bool.{true}
+use mathlib.Core.Path.{_≡_, sym, ap, _∙_}
 use mathlib.Core.List.{List, [], _∷_}
 use native.Mathlib.Omega.{arith}
 use lib.ListN.{length}
 use lib.IntN.{ℤ}
 use borrow.Author.Needs.{needs}
-use Rattle.params.specs.Banks.{rowOf, rowsFaults, rowsOutside}
+use Rattle.params.specs.Banks.{rowOf}
 use Rattle.params.specs.Judge.{sheetOf}
 use Rattle.params.proofs.Accepted.{Accepted, no-faults, judged-none}
 use Rattle.params.proofs.RowsOf.{row-inside}
 use Rattle.state.specs.declared.Pair.{Pair}
 use Rattle.symbol.specs.declared.Sums.{Sums}
 use Rattle.fixed.specs.Filter.{sumsOf, filtered}
-use Rattle.fixed.specs.Inside.{Laid, sumsOver, Row, DetectorRow}
-use Rattle.fixed.proofs.Windows.{cut, cut-long, sums-newest, good-part, detector-part}
+use Rattle.fixed.specs.Inside.{Laid, Filterable}
+use Rattle.fixed.proofs.PhaseRows.{part, part-is, part-long, part-row, part-centred}
 use Rattle.fixed.proofs.sample.sums_at.Statement.{statement}
 use Rattle.fixed.proofs.sample.sums_at.Tie as tie
 
@@ -29,9 +28,6 @@ module _ (s : tie.Start) where
   abbrev phase : ℕ
   phase = s .args .phase
 
-  abbrev head : ℕ
-  head = s .args .w .head
-
   abbrev h : List ℤ
   h = s .args .h .now
 
@@ -41,45 +37,54 @@ module _ (s : tie.Start) where
   abbrev k : List ℤ
   k = s .args .k .now
 
-  abbrev i : List ℕ
-  i = s .args .i .now
-
-  abbrev q : List ℕ
-  q = s .args .q .now
-
   accepted : Accepted (sheetOf (s .args .p) h g k)
   accepted = no-faults _ (judged-none _ (s .pre .0 .accepted))
 
   short : taps ≤ 64
   short = accepted .lengths .good .most
 
-  -- the phase's row lies within its bank, and the window within its array
+  -- the phase's row lies within its bank
   inside : phase * taps + taps ≤ 64 * taps
   inside = row-inside taps h phase (s .pre .1)
 
-  window-long : (kept : List ℕ) → length kept ≡ 128 → length (cut head taps kept) ≡ taps
-  window-long kept e = cut-long head taps kept (omega (arith, short, s .pre .0 .head))
+  -- The row of a bank that goes to the filter, as long as the line.
+  abbrev row : List ℤ → List ℤ
+  row cs = part taps phase cs
 
-  -- what the filter asks of a bank's row
-  detector : (bank : ℕ) (cs : List ℤ) → length cs ≡ 64 * taps → rowsFaults taps bank cs 0 64 ≡ [] → rowsOutside taps cs 0 64 ≡ true
-      → DetectorRow (cut (phase * taps) taps cs) (cut head taps i) (cut head taps q)
-  detector bank cs long = detector-part taps phase (s .pre .1) cs long bank short (window-long i (s .pre .0 .long-i)) (window-long q (s .pre .0 .long-q))
+  row-long : (cs : List ℤ) → length cs ≡ 64 * taps → length (row cs) ≡ taps
+  row-long cs long = part-long taps phase (s .pre .1) cs long
 
-  output : (bank : ℕ) (cs : List ℤ) → length cs ≡ 64 * taps → rowsFaults taps bank cs 0 64 ≡ []
-      → Row (cut (phase * taps) taps cs) (cut head taps i) (cut head taps q)
-  output bank cs long = good-part taps phase (s .pre .1) cs long bank short (window-long i (s .pre .0 .long-i)) (window-long q (s .pre .0 .long-q))
+  k-long : length (row k) ≡ taps
+  k-long = row-long k (accepted .lengths .long-k)
 
-  -- and what it answers
-  abbrev over : List ℤ → Sums
-  over cs = sumsOver (cut (phase * taps) taps cs) (cut head taps i) (cut head taps q)
+  filterable : Filterable (row h) (row g) (row k) (s .args .i .now) (s .args .q .now) (s .args .w .head)
+  filterable =
+      let l = accepted .lengths in
+      let b = accepted .banks in
+      record {
+        row-h = part-row taps phase (s .pre .1) h (l .long-h) 0 short (b .rows-h);
+        row-g = part-row taps phase (s .pre .1) g (l .long-g) 1 short (b .rows-g);
+        row-k = part-row taps phase (s .pre .1) k (l .long-k) 2 short (b .rows-k);
+        long-h = row-long h (l .long-h) ∙ sym k-long;
+        long-g = row-long g (l .long-g) ∙ sym k-long;
+        centred-h = part-centred taps phase (s .pre .1) h (l .long-h) (b .outside-h);
+        centred-g = part-centred taps phase (s .pre .1) g (l .long-g) (b .outside-g);
+        newest = rw k-long (s .pre .0 .head);
+        long-i = s .pre .0 .long-i;
+        long-q = s .pre .0 .long-q;
+        small-i = rw k-long (s .pre .0 .small-i);
+        small-q = rw k-long (s .pre .0 .small-q);
+      }
 
-  sums-are : (l : List Pair) → Laid taps i q l → (over h ∷ over g ∷ over k ∷ []) ≡ filtered (sheetOf (s .args .p) h g k) phase l head
+  -- a row's sums are those of the definition's row
+  row-sums : (cs : List ℤ) (l : List Pair) → sumsOf (length (row k)) (row cs) l (s .args .w .head) ≡ sumsOf taps (rowOf taps cs phase) l (s .args .w .head)
+  row-sums cs l = λ t. sumsOf (k-long t) (part-is taps phase cs t) l (s .args .w .head)
+
+  sums-are : (l : List Pair)
+      → let of : List ℤ → Sums = λ cs. sumsOf (length (row k)) (row cs) l (s .args .w .head) in
+      (of h ∷ of g ∷ of k ∷ []) ≡ filtered (sheetOf (s .args .p) h g k) phase l (s .args .w .head)
   unfolding filtered
-  sums-are l laid =
-      let is : (cs : List ℤ) → length cs ≡ 64 * taps → over cs ≡ sumsOf taps (rowOf taps cs phase) l head =
-      λ cs long. sums-newest taps phase (s .pre .1) cs long head (s .pre .0 .head) laid in
-      let lengths = accepted .lengths in
-      λ t. is h (lengths .long-h) t ∷ is g (lengths .long-g) t ∷ is k (lengths .long-k) t ∷ []
+  sums-are l = λ t. row-sums h l t ∷ row-sums g l t ∷ row-sums k l t ∷ []
 
 cast-taps : tie.Need-cast-taps
 cast-taps c = search needs
@@ -89,9 +94,6 @@ mul-a c = let s = c .before .before .before in record { fits = omega (arith, ins
 
 add-b : tie.Need-add-b
 add-b c = let s = c .before .before .before in record { fits = omega (arith, inside s, short s) }
-
-add-end : tie.Need-add-end
-add-end c = search needs
 
 mul-filter : tie.Need-mul-filter
 mul-filter c = let s = c .before .before .before in record { fits = omega (arith, inside s, short s) }
@@ -129,43 +131,13 @@ part-filter-start-3 c = search needs
 part-filter-end-3 : tie.Need-part-filter-end-3
 part-filter-end-3 c = let s = c .before .before .before .before .before in omega (arith, inside s, accepted s .lengths .long-k)
 
-mul-filter-4 : tie.Need-mul-filter-4
-mul-filter-4 c = search needs
-
-sub-filter-4 : tie.Need-sub-filter-4
-sub-filter-4 c = search needs
-
-part-filter-start-4 : tie.Need-part-filter-start-4
-part-filter-start-4 c = search needs
-
-part-filter-end-4 : tie.Need-part-filter-end-4
-part-filter-end-4 c = let s = c .before .before .before .before .before .before in omega (arith, short s, s .pre .0 .head, s .pre .0 .long-i)
-
-mul-filter-5 : tie.Need-mul-filter-5
-mul-filter-5 c = search needs
-
-sub-filter-5 : tie.Need-sub-filter-5
-sub-filter-5 c = search needs
-
-part-filter-start-5 : tie.Need-part-filter-start-5
-part-filter-start-5 c = search needs
-
-part-filter-end-5 : tie.Need-part-filter-end-5
-part-filter-end-5 c = let s = c .before .before .before .before .before .before .before in omega (arith, short s, s .pre .0 .head, s .pre .0 .long-q)
-
 filter-requires : tie.Need-filter-requires
-filter-requires c κs =
-    let s = c .before .before .before .before .before .before .before .before in
-    let l = accepted s .lengths in
-    let b = accepted s .banks in (
-      detector s 0 (h s) (l .long-h) (b .rows-h) (b .outside-h),
-      (detector s 1 (g s) (l .long-g) (b .rows-g) (b .outside-g), output s 2 (k s) (l .long-k) (b .rows-k)),
-    )
+filter-requires c κs = filterable (c .before .before .before .before .before .before)
 
 returns : tie.Need-returns
 returns c =
-    let s = c .before .before .before .before .before .before .before .before .before in
-    λ l laid. c .filter .ensures ∙ sums-are s l laid
+    let s = c .before .before .before .before .before .before .before in
+    λ l laid. c .filter .ensures l (rw (k-long s) laid) ∙ sums-are s l
 
 pub sums-at-spec : {M : Type 1} → statement M
 sums-at-spec =
@@ -174,7 +146,6 @@ sums-at-spec =
     cast-taps
     mul-a
     add-b
-    add-end
     mul-filter
     sub-filter
     part-filter-start
@@ -187,13 +158,5 @@ sums-at-spec =
     sub-filter-3
     part-filter-start-3
     part-filter-end-3
-    mul-filter-4
-    sub-filter-4
-    part-filter-start-4
-    part-filter-end-4
-    mul-filter-5
-    sub-filter-5
-    part-filter-start-5
-    part-filter-end-5
     filter-requires
     returns)

@@ -106,6 +106,8 @@ sums-at-requires c κs =
         head = going-at b .head;
         long-i = b .pre .0 .begun .long-i;
         long-q = b .pre .0 .begun .long-q;
+        small-i = b .pre .0 .begun .small-i;
+        small-q = b .pre .0 .begun .small-q;
       },
       subst (λ (n : ℕ). n < 64) (sym (phase-at b)) (omega (arith, soon b)),
     )
