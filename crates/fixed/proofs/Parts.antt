@@ -34,30 +34,18 @@ row-drop {row} n r = record { short = omega (arith, length-drop n row, r .short)
 
 -- ---- the line's numbers
 
--- as many as lie between two places, as the code cuts them
-pub between-long : {A : Type 0} (a b : ℕ) (l : List A) → b ≤ length l → length (take (b - a) (drop a l)) ≡ b - a
-between-long a b l h = length-take-le (b - a) (drop a l) (omega (arith, length-drop a l))
-
-between-at : (a b : ℕ) (l : List ℕ) (m : ℕ) → m < b - a → getD (take (b - a) (drop a l)) m 0 ≡ getD l (a + m) 0
-between-at a b l m h = getD-take (b - a) (drop a l) m 0 h ∙ getD-drop a l m 0
-
-between-small : (a b : ℕ) (l : List ℕ) → In32 b l → In32 (b - a) (take (b - a) (drop a l))
-between-small a b l small m h = rw (between-at a b l m h) (small (a + m) (omega arith))
-
-pub beside-between : (a b : ℕ) (i q : List ℕ) → b ≤ length i → b ≤ length q → In32 b i → In32 b q
-    → Beside (b - a) (take (b - a) (drop a i)) (take (b - a) (drop a q))
-beside-between a b i q x y small-i small-q = record {
-  long-i = between-long a b i x;
-  long-q = between-long a b q y;
-  small-i = between-small a b i small-i;
-  small-q = between-small a b q small-q;
+-- n numbers from place a on, as the code cuts them
+pub beside-part : (a n taps : ℕ) (i q : List ℕ) → a + n ≤ taps → taps ≤ length i → taps ≤ length q → In32 taps i → In32 taps q
+    → Beside n (take n (drop a i)) (take n (drop a q))
+beside-part a n taps i q h x y small-i small-q = record {
+  long-i = long i (omega arith);
+  long-q = long q (omega arith);
+  small-i = small i small-i;
+  small-q = small q small-q;
 }
+  where
+    long : (l : List ℕ) → a + n ≤ length l → length (take n (drop a l)) ≡ n
+    long l k = length-take-le n (drop a l) (omega (arith, length-drop a l))
 
--- the first of them
-pub beside-first : (b : ℕ) (i q : List ℕ) → b ≤ length i → b ≤ length q → In32 b i → In32 b q → Beside b (take b i) (take b q)
-beside-first b i q x y small-i small-q = record {
-  long-i = length-take-le b i x;
-  long-q = length-take-le b q y;
-  small-i = λ m h. rw (getD-take b i m 0 h) (small-i m h);
-  small-q = λ m h. rw (getD-take b q m 0 h) (small-q m h);
-}
+    small : (l : List ℕ) → In32 taps l → In32 n (take n (drop a l))
+    small l each m k = rw (getD-take n (drop a l) m 0 k, getD-drop a l m 0) (each (a + m) (omega arith))

@@ -8,13 +8,12 @@ use native.Mathlib.Omega.{arith}
 use lib.ListN.{length, getD, take, drop, length-drop}
 use lib.Seq.{length-take-le, getD-take, getD-drop}
 use lib.IntN.{ℤ, pos, _+ℤ_, _*ℤ_}
-use Rattle.symbol.specs.declared.Sums.{Sums}
 use Rattle.state.specs.declared.Pair.{Pair}
 use Rattle.state.specs.Start.{noPair}
 use Rattle.fixed.specs.Line.{nthNewest}
 use Rattle.fixed.specs.Filter.{sumTo, sumsOf}
-use Rattle.fixed.specs.TwoRuns.{firstRun, secondRun, together, TwoRuns}
-use Rattle.fixed.specs.Inside.{lowered, pairAt, Laid, sumOver, sumsOver}
+use Rattle.fixed.specs.TwoRuns.{runSums, together, TwoRuns}
+use Rattle.fixed.specs.Inside.{lowered, pairAt, Laid, sumOver, sumsOver, runOver}
 use Rattle.fixed.proofs.RowSums.{sum-same, sum-split, coefficient, term}
 
 -- ---- the claim
@@ -31,19 +30,20 @@ module _ (taps : ℕ) (row : List ℤ) (line : List Pair) (head : ℕ) (h : head
   newest : ℕ → ℤ
   newest n = coefficient row n *ℤ of (getD line ((head + n) % taps) noPair)
 
-  in-two : sumTo (λ n. coefficient row n *ℤ of (getD line (head + n) noPair)) (taps - head)
-      +ℤ sumTo (λ n. coefficient row (taps - head + n) *ℤ of (getD line n noPair)) head ≡ sumTo newest taps
+  in-two : sumTo (λ n. coefficient row (0 + n) *ℤ of (getD line (head + n) noPair)) (taps - head)
+      +ℤ sumTo (λ n. coefficient row (taps - head + n) *ℤ of (getD line (0 + n) noPair)) head ≡ sumTo newest taps
   unfolding newest
   in-two =
       let e : taps - head + head ≡ taps = omega arith in
-      let first = sum-same (λ n. coefficient row n *ℤ of (getD line (head + n) noPair)) newest (taps - head)
-      (λ n l. ap (λ (m : ℕ). coefficient row n *ℤ of (getD line m noPair)) (sym (near n l))) in
-      let second = sum-same (λ n. coefficient row (taps - head + n) *ℤ of (getD line n noPair)) (λ n. newest (taps - head + n)) head
-      (λ n l. ap (λ (m : ℕ). coefficient row (taps - head + n) *ℤ of (getD line m noPair)) (sym (far n l))) in
+      let from-0 : (n : ℕ) → 0 + n ≡ n = λ n. omega arith in
+      let first = sum-same (λ n. coefficient row (0 + n) *ℤ of (getD line (head + n) noPair)) newest (taps - head)
+      (λ n l. λ t. coefficient row (from-0 n t) *ℤ of (getD line (sym (near n l) t) noPair)) in
+      let second = sum-same (λ n. coefficient row (taps - head + n) *ℤ of (getD line (0 + n) noPair)) (λ n. newest (taps - head + n)) head
+      (λ n l. ap (λ (m : ℕ). coefficient row (taps - head + n) *ℤ of (getD line m noPair)) (from-0 n ∙ sym (far n l))) in
       (λ t. first t +ℤ second t) ∙ sym (sum-split newest (taps - head) head) ∙ ap (sumTo newest) e
 
 pub two-runs : TwoRuns
-unfolding firstRun secondRun sumsOf nthNewest newest
+unfolding runSums sumsOf nthNewest newest
 two-runs taps row line head h =
     let x = in-two taps row line head h (λ (a : Pair). a .i) in
     let y = in-two taps row line head h (λ (a : Pair). a .q) in
@@ -51,37 +51,40 @@ two-runs taps row line head h =
 
 -- ---- the runs over what a block keeps
 
-module _ (taps : ℕ) (row : List ℤ) (i q : List ℕ) (line : List Pair) (head : ℕ) (laid : Laid taps i q line) (h : head < taps) (long : length row ≡ taps) where
-  abbrev cut : ℕ
-  cut = taps - head
+-- a part of a row over as many numbers, as the code cuts them
+part-sum : (row : List ℤ) (kept : List ℕ) (from place n : ℕ) → from + n ≤ length row
+    → sumOver (take n (drop from row)) (take n (drop place kept)) ≡ sumTo (λ m. coefficient row (from + m) *ℤ lowered (getD kept (place + m) 0)) n
+unfolding sumOver
+part-sum row kept from place n h =
+    let long : length (take n (drop from row)) ≡ n = length-take-le n (drop from row) (omega (arith, length-drop from row)) in
+    ap (sumTo (term (take n (drop from row)) (take n (drop place kept)))) long
+    ∙ sum-same (term (take n (drop from row)) (take n (drop place kept))) (λ m. coefficient row (from + m) *ℤ lowered (getD kept (place + m) 0)) n
+    (λ m l. rw (
+      getD-take n (drop from row) m (pos 0) l,
+      getD-take n (drop place kept) m 0 l,
+      getD-drop from row m (pos 0),
+      getD-drop place kept m 0,
+    ))
 
-  first-is : (kept : List ℕ) (of : Pair → ℤ) → ((n : ℕ) → n < taps → lowered (getD kept n 0) ≡ of (getD line n noPair))
-      → sumOver (take cut row) (take cut (drop head kept)) ≡ sumTo (λ n. coefficient row n *ℤ of (getD line (head + n) noPair)) cut
-  unfolding sumOver
-  first-is kept of each =
-      ap (sumTo (term (take cut row) (take cut (drop head kept)))) (length-take-le cut row (omega arith))
-      ∙ sum-same (term (take cut row) (take cut (drop head kept))) (λ n. coefficient row n *ℤ of (getD line (head + n) noPair)) cut
-      (λ n l. rw (getD-take cut row n (pos 0) l, getD-take cut (drop head kept) n 0 l, getD-drop head kept n 0)
-      (ap (λ (z : ℤ). coefficient row n *ℤ z) (each (head + n) (omega arith))))
+pub part-sums : (row : List ℤ) (i q : List ℕ) (from place n : ℕ) → from + n ≤ length row
+    → sumsOver (take n (drop from row)) (take n (drop place i)) (take n (drop place q)) ≡ runOver row i q from place n
+unfolding sumsOver runOver
+part-sums row i q from place n h = λ t. record { i = part-sum row i from place n h t; q = part-sum row q from place n h t }
 
-  second-is : (kept : List ℕ) (of : Pair → ℤ) → ((n : ℕ) → n < taps → lowered (getD kept n 0) ≡ of (getD line n noPair))
-      → sumOver (drop cut row) (take head kept) ≡ sumTo (λ n. coefficient row (cut + n) *ℤ of (getD line n noPair)) head
-  unfolding sumOver
-  second-is kept of each =
-      let e : length (drop cut row) ≡ head = omega (arith, length-drop cut row) in
-      ap (sumTo (term (drop cut row) (take head kept))) e
-      ∙ sum-same (term (drop cut row) (take head kept)) (λ n. coefficient row (cut + n) *ℤ of (getD line n noPair)) head
-      (λ n l. rw (getD-drop cut row n (pos 0), getD-take head kept n 0 l) (ap (λ (z : ℤ). coefficient row (cut + n) *ℤ z) (each n (omega arith))))
+module _ (taps : ℕ) (row : List ℤ) (i q : List ℕ) (line : List Pair) (laid : Laid taps i q line) where
+  -- they are runs over the line
+  run-laid : (from place count : ℕ) → place + count ≤ taps → runOver row i q from place count ≡ runSums row line from place count
+  unfolding runOver runSums
+  run-laid from place count h =
+      let at : (n : ℕ) → n < count → pairAt i q (place + n) ≡ getD line (place + n) noPair = λ n l. sym (laid .each (place + n) (omega arith)) in
+      let x = sum-same (λ n. coefficient row (from + n) *ℤ lowered (getD i (place + n) 0))
+      (λ n. coefficient row (from + n) *ℤ getD line (place + n) noPair .i) count (λ n l. λ t. coefficient row (from + n) *ℤ at n l t .i) in
+      let y = sum-same (λ n. coefficient row (from + n) *ℤ lowered (getD q (place + n) 0))
+      (λ n. coefficient row (from + n) *ℤ getD line (place + n) noPair .q) count (λ n l. λ t. coefficient row (from + n) *ℤ at n l t .q) in
+      λ t. record { i = x t; q = y t }
 
-  -- together they are the definition's sums
-  pub runs-are : together (sumsOver (take cut row) (take cut (drop head i)) (take cut (drop head q))) (sumsOver (drop cut row) (take head i) (take head q))
-      ≡ sumsOf taps row line head
-  unfolding sumsOver firstRun secondRun
-  runs-are =
-      let at-i : (n : ℕ) → n < taps → lowered (getD i n 0) ≡ getD line n noPair .i = λ n l. ap (λ (a : Pair). a .i) (sym (laid .each n l)) in
-      let at-q : (n : ℕ) → n < taps → lowered (getD q n 0) ≡ getD line n noPair .q = λ n l. ap (λ (a : Pair). a .q) (sym (laid .each n l)) in
-      let a = first-is i (λ (a : Pair). a .i) at-i in
-      let b = first-is q (λ (a : Pair). a .q) at-q in
-      let c = second-is i (λ (a : Pair). a .i) at-i in
-      let d = second-is q (λ (a : Pair). a .q) at-q in
-      (λ t. together (record { i = a t; q = b t }) (record { i = c t; q = d t })) ∙ two-runs taps row line head h
+  -- and both together are the definition's sums
+  pub runs-are : (head : ℕ) → head < taps → together (runOver row i q 0 head (taps - head)) (runOver row i q (taps - head) 0 head) ≡ sumsOf taps row line head
+  runs-are head h =
+      (λ t. together (run-laid 0 head (taps - head) (omega arith) t) (run-laid (taps - head) 0 head (omega arith) t))
+      ∙ two-runs taps row line head h

@@ -74,26 +74,8 @@ pub record Beside (n : ℕ) (i q : List ℕ) : Type 0 where
   pub small-i : In32 n i
   pub small-q : In32 n q
 
--- A row, or a part of one, that is zero outside low..high.
-pub record ZeroOutside (low high : ℕ) (row : List ℤ) : Type 0 where
-  pub front : (n : ℕ) → n < low → getD row n (pos 0) ≡ pos 0
-  pub back : (n : ℕ) → high ≤ n → getD row n (pos 0) ≡ pos 0
-
--- What a run goes over: its part of each row, as many places of the line, and the detector's places among them.
-pub record RunOver (h g k : List ℤ) (i q : List ℕ) (low high : ℕ) : Type 0 where
-  pub row-h : Row h
-  pub row-g : Row g
-  pub row-k : Row k
-  pub long-h : length h ≡ length k
-  pub long-g : length g ≡ length k
-  pub beside : Beside (length k) i q
-  pub ordered : low ≤ high
-  pub inside : high ≤ length k
-  pub zero-h : ZeroOutside low high h
-  pub zero-g : ZeroOutside low high g
-
--- What both runs go over: whole rows, of which those of h and g are zero outside the detector's places, and the line with its newest number at `head`.
-pub record Filterable (h g k : List ℤ) (i q : List ℕ) (head : ℕ) : Type 0 where
+-- What the runs go over: rows, of which those of h and g are zero outside the detector's places, and both components of a line as long.
+pub record Filterable (h g k : List ℤ) (i q : List ℕ) : Type 0 where
   pub row-h : Row h
   pub row-g : Row g
   pub row-k : Row k
@@ -101,7 +83,6 @@ pub record Filterable (h g k : List ℤ) (i q : List ℕ) (head : ℕ) : Type 0 
   pub long-g : length g ≡ length k
   pub centred-h : zeroOutside (length h) 0 h ≡ true
   pub centred-g : zeroOutside (length g) 0 g ≡ true
-  pub newest : head < length k
   pub long-i : length i ≡ 64
   pub long-q : length q ≡ 64
   pub small-i : In32 (length k) i
@@ -151,12 +132,19 @@ pub record Outputs (k : List ℤ) (i q : List ℕ) (before after : Raised) : Typ
   pub of-k : unraisedSums after ≡ together (unraisedSums before) (sumsOver k i q)
   pub few : (n : ℕ) → RaisedUpto n before → RaisedUpto (n + length k) after
 
--- A run adds the three banks' sums over its own coefficients and places.
-pub record RunAdds (h g k : List ℤ) (i q : List ℕ) (before after : Summed) : Type 0 where
-  pub of-h : after .detected .h ≡ together (before .detected .h) (sumsOver h i q)
-  pub of-g : after .detected .g ≡ together (before .detected .g) (sumsOver g i q)
-  pub of-k : unraisedSums (after .output) ≡ together (unraisedSums (before .output)) (sumsOver k i q)
-  pub few : (n : ℕ) → SummedUpto n before → SummedUpto (n + length k) after
+-- A run's sums (TwoRuns.antt), over what is kept of the line.
+unfoldable pub runOver : List ℤ → List ℕ → List ℕ → ℕ → ℕ → ℕ → Sums
+runOver row i q from place count = record {
+  i = sumTo (λ n. getD row (from + n) (pos 0) *ℤ lowered (getD i (place + n) 0)) count;
+  q = sumTo (λ n. getD row (from + n) (pos 0) *ℤ lowered (getD q (place + n) 0)) count;
+}
+
+-- A run adds the three banks' sums over its own coefficients and places to those before it.
+pub record RunAdds (h g k : List ℤ) (i q : List ℕ) (from place count : ℕ) (before after : Summed) : Type 0 where
+  pub of-h : after .detected .h ≡ together (before .detected .h) (runOver h i q from place count)
+  pub of-g : after .detected .g ≡ together (before .detected .g) (runOver g i q from place count)
+  pub of-k : unraisedSums (after .output) ≡ together (unraisedSums (before .output)) (runOver k i q from place count)
+  pub few : (n : ℕ) → SummedUpto n before → SummedUpto (n + count) after
 
 -- ---- the waiting errors
 

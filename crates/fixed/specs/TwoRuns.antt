@@ -11,19 +11,20 @@ use Rattle.state.specs.declared.Pair.{Pair}
 use Rattle.state.specs.Start.{noPair}
 use Rattle.fixed.specs.Filter.{sumTo, sumsOf}
 
--- The first run: the line's places from `head` to the last of its `taps`, with the row's first coefficients.
-unfoldable pub firstRun : ℕ → List ℤ → List Pair → ℕ → Sums
-firstRun taps row line head = record {
-  i = sumTo (λ n. getD row n (pos 0) *ℤ getD line (head + n) noPair .i) (taps - head);
-  q = sumTo (λ n. getD row n (pos 0) *ℤ getD line (head + n) noPair .q) (taps - head);
+-- A run's sums: `count` coefficients of a row, from number `from` on, times as many pairs of the line, from place `place` on.
+unfoldable pub runSums : List ℤ → List Pair → ℕ → ℕ → ℕ → Sums
+runSums row line from place count = record {
+  i = sumTo (λ n. getD row (from + n) (pos 0) *ℤ getD line (place + n) noPair .i) count;
+  q = sumTo (λ n. getD row (from + n) (pos 0) *ℤ getD line (place + n) noPair .q) count;
 }
 
+-- The first run: the line's places from `head` to the last of its `taps`, with the row's first coefficients.
+abbrev pub firstRun : ℕ → List ℤ → List Pair → ℕ → Sums
+firstRun taps row line head = runSums row line 0 head (taps - head)
+
 -- The second run: the places below `head`, with the coefficients behind those of the first.
-unfoldable pub secondRun : ℕ → List ℤ → List Pair → ℕ → Sums
-secondRun taps row line head = record {
-  i = sumTo (λ n. getD row (taps - head + n) (pos 0) *ℤ getD line n noPair .i) head;
-  q = sumTo (λ n. getD row (taps - head + n) (pos 0) *ℤ getD line n noPair .q) head;
-}
+abbrev pub secondRun : ℕ → List ℤ → List Pair → ℕ → Sums
+secondRun taps row line head = runSums row line (taps - head) 0 head
 
 -- Two sums as one.
 abbrev pub together : Sums → Sums → Sums

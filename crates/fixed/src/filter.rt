@@ -11,12 +11,12 @@ use crate::line;
 use symbol::Sums;
 ghost use mathlib.Core.Path.{_≡_};
 ghost use mathlib.Core.List.{List, _∷_, []};
-ghost use Prim.Native.Nat.{_+_, _*_, _^_, _≤_, _<_};
+ghost use Prim.Native.Nat.{_+_, _*_, _≤_, _<_, min, max};
 ghost use lib.ListN.{length};
 ghost use lib.IntN.{natAbs, pos, _+ℤ_, _*ℤ_};
 ghost use Rattle.state.specs.declared.Pair.{Pair};
 ghost use Rattle.fixed.specs.Filter.{sumsOf};
-ghost use Rattle.fixed.specs.Inside.{Laid, Row, Beside, RunOver, Filterable, SumsUpto, DetectedUpto, RaisedUpto, SummedUpto};
+ghost use Rattle.fixed.specs.Inside.{Laid, Row, Beside, Filterable, SumsUpto, DetectedUpto, RaisedUpto, SummedUpto};
 ghost use Rattle.fixed.specs.Inside.{unraisedSums, noneSummed, Detects, Outputs, RunAdds};
 
 // ---- rows of h and g
@@ -140,7 +140,22 @@ fn nothing_summed() -> Summed
     }
 }
 
-// One run: its part of each row, over as many places of the line. The parts of h and g are zero outside low..high, so only these places are summed.
+// `at`, held between `from` and `to`.
+fn held(at: usize, from: usize, to: usize) -> usize
+    requires { ⌜ from ≤ to ⌝ }
+    ensures { λ r. ⌜ r ≡ min (max at from) to ⌝ }
+{
+    if at < from {
+        return from;
+    }
+    if to < at {
+        return to;
+    }
+    at
+}
+
+// One run: `count` coefficients of each row, from number `from` on, over as many places of the line, from `place` on. Outside the detector's places the rows
+// of h and g are zero, so of these two only the run's share of the places is summed.
 fn line_run(
     before: Summed,
     h: &[i32],
@@ -148,26 +163,36 @@ fn line_run(
     k: &[i32],
     i: &[u64],
     q: &[u64],
-    low: usize,
-    high: usize,
+    from: usize,
+    place: usize,
+    count: usize,
 ) -> Summed
-    requires { ⌜ RunOver (now h) (now g) (now k) (now i) (now q) low high × SummedUpto 64 before ⌝ }
-    ensures { λ r. ⌜ RunAdds (now (h .entry)) (now (g .entry)) (now (k .entry)) (now (i .entry)) (now (q .entry)) before r ⌝ }
+    requires { ⌜ Filterable (now h) (now g) (now k) (now i) (now q) × SummedUpto 64 before ⌝ }
+    requires { ⌜ (from + count ≤ length (now k)) × (place + count ≤ length (now k)) ⌝ }
+    ensures { λ r. ⌜
+        RunAdds (now (h .entry)) (now (g .entry)) (now (k .entry)) (now (i .entry)) (now (q .entry)) from place count before r ⌝ }
 {
+    let to = from + count;
+    let end = place + count;
+    let d = params::detector_of(k.len());
+    let low = held(d.low, from, to);
+    let high = held(d.high, from, to);
+    let a = place + (low - from);
+    let b = place + (high - from);
     let detected = detector_run(
         before.detected,
         &h[low..high],
         &g[low..high],
-        &i[low..high],
-        &q[low..high],
+        &i[a..b],
+        &q[a..b],
     );
     Summed {
         detected,
-        output: output_run(before.output, k, i, q),
+        output: output_run(before.output, &k[from..to], &i[place..end], &q[place..end]),
     }
 }
 
-// The sums of h, g and k, each a row, over the line from its newest number on. Of the detector's places, low..high, each run takes its share.
+// The sums of h, g and k, each a row, over the line from its newest number on, which stands at `head`.
 pub(crate) fn filter(
     h: &[i32],
     g: &[i32],
@@ -176,7 +201,7 @@ pub(crate) fn filter(
     q: &[u64],
     head: usize,
 ) -> [Sums; 3]
-    requires { ⌜ Filterable (now h) (now g) (now k) (now i) (now q) head ⌝ }
+    requires { ⌜ Filterable (now h) (now g) (now k) (now i) (now q) × (head < length (now k)) ⌝ }
     ensures { λ r. ⌜
         ((l : List Pair) → Laid (length (now (k .entry))) (now (i .entry)) (now (q .entry)) l
         → r ≡ sumsOf (length (now (k .entry))) (now (h .entry)) l head
@@ -184,31 +209,9 @@ pub(crate) fn filter(
         ∷ sumsOf (length (now (k .entry))) (now (k .entry)) l head
         ∷ []) ⌝ }
 {
-    let taps = k.len();
-    let cut = taps - head;
-    let d = params::detector_of(taps);
-    let low = arith::least(d.low, cut);
-    let high = arith::least(d.high, cut);
-    let first = line_run(
-        nothing_summed(),
-        &h[..cut],
-        &g[..cut],
-        &k[..cut],
-        &i[head..taps],
-        &q[head..taps],
-        low,
-        high,
-    );
-    let both = line_run(
-        first,
-        &h[cut..],
-        &g[cut..],
-        &k[cut..],
-        &i[..head],
-        &q[..head],
-        d.low - low,
-        d.high - high,
-    );
+    let cut = k.len() - head;
+    let first = line_run(nothing_summed(), h, g, k, i, q, 0, head, cut);
+    let both = line_run(first, h, g, k, i, q, cut, 0, head);
     let detected = both.detected;
     let a = detected.h;
     let b = detected.g;

@@ -1,49 +1,161 @@
--- `fixed::filter::line_run` meets its contract: the parts that go to the detector's rows are those between low and high, and what h and g have outside adds
--- nothing (Centre). The row of k goes over all of the run.
-use Prim.Native.Nat.{ℕ, _+_, _-_, _≤_}
-use mathlib.Core.Path.{_≡_, sym, ap, _∙_}
+-- `fixed::filter::line_run` meets its contract: the parts that it hands on are the run's own coefficients and places, or the detector's share of them.
+-- A part's sums are the run's (TwoRuns), and what h and g have outside their share adds nothing (Centre).
+use Prim.Native.Nat.{ℕ, _+_, _-_, _*_, _/_, _≤_, _<_, min, max}
+use mathlib.Core.Path.{_≡_, refl, sym, ap, subst, _∙_}
+use mathlib.Core.Bool.{true}
 use mathlib.Core.List.{List}
 use native.Mathlib.Omega.{arith}
-use lib.ListN.{length, take, drop}
+use lib.ListN.{length, take, drop, length-drop}
+use lib.Seq.{length-take-le}
 use lib.IntN.{ℤ}
 use borrow.Author.Needs.{needs}
+use Rattle.params.specs.Banks.{zeroOutside}
 use Rattle.symbol.specs.declared.Sums.{Sums}
 use Rattle.fixed.specs.TwoRuns.{together}
-use Rattle.fixed.specs.Inside.{sumsOver, Row, Beside, RunOver, SumsUpto}
-use Rattle.fixed.proofs.Parts.{row-take, row-drop, between-long, beside-between}
-use Rattle.fixed.proofs.Centre.{sums-middle}
-use Rattle.fixed.proofs.RowSums.{sums-wider}
+use Rattle.fixed.specs.Inside.{sumsOver, runOver, Beside, Filterable, SumsUpto, unraisedSums}
+use Rattle.fixed.proofs.Parts.{row-take, row-drop, beside-part}
+use Rattle.fixed.proofs.Centre.{low, wide, Share, share-is, share-sums}
+use Rattle.fixed.proofs.RowSums.{sums-wider, raised-wider}
+use Rattle.fixed.proofs.TwoRuns.{part-sums}
 use Rattle.fixed.proofs.filter.line_run.Statement.{statement}
 use Rattle.fixed.proofs.filter.line_run.Tie as tie
 
--- ---- the part between low and high
+-- ---- the run and its share of the detector's places
 
-module _ {h g k : List ℤ} {i q : List ℕ} {low high : ℕ} (over : RunOver h g k i q low high) where
-  abbrev between : {A : Type 0} → List A → List A
-  between l = take (high - low) (drop low l)
+module _ (c : tie.After-held2) where
+  abbrev start : tie.Start
+  start = c .before .before .before .before .before
 
-  h-long : length (between h) ≡ high - low
-  h-long = between-long low high h (omega (arith, over .long-h, over .inside))
+  abbrev from : ℕ
+  from = start .args .from
 
-  as-long : length (between g) ≡ length (between h)
-  as-long = between-long low high g (omega (arith, over .long-g, over .inside)) ∙ sym h-long
+  abbrev place : ℕ
+  place = start .args .place
 
-  middle-beside : Beside (length (between h)) (between i) (between q)
-  middle-beside =
-      let b = over .beside in
-      rw h-long
-      (beside-between low high i q (omega (arith, b .long-i, over .inside)) (omega (arith, b .long-q, over .inside))
-      (λ m l. b .small-i m (omega (arith, over .inside))) (λ m l. b .small-q m (omega (arith, over .inside))))
+  abbrev count : ℕ
+  count = start .args .count
 
-  h-sums : sumsOver (between h) (between i) (between q) ≡ sumsOver h i q
-  h-sums = sums-middle low high h (over .zero-h) (over .ordered) (omega (arith, over .long-h, over .inside)) i q
+  abbrev h : List ℤ
+  h = start .args .h .now
 
-  g-sums : sumsOver (between g) (between i) (between q) ≡ sumsOver g i q
-  g-sums = sums-middle low high g (over .zero-g) (over .ordered) (omega (arith, over .long-g, over .inside)) i q
+  abbrev g : List ℤ
+  g = start .args .g .now
 
-  -- they are no more places than the run has
-  fewer : (n : ℕ) {s : Sums} → SumsUpto (n + length (between h)) s → SumsUpto (n + length k) s
-  fewer n = sums-wider (omega (arith, h-long, over .inside))
+  abbrev k : List ℤ
+  k = start .args .k .now
+
+  abbrev i : List ℕ
+  i = start .args .i .now
+
+  abbrev q : List ℕ
+  q = start .args .q .now
+
+  abbrev lent : Filterable h g k i q
+  lent = start .pre .0 .0
+
+  short : length k ≤ 64
+  short = lent .row-k .short
+
+  in-row : from + count ≤ length k
+  in-row = start .pre .1 .0
+
+  in-line : place + count ≤ length k
+  in-line = start .pre .1 .1
+
+  -- Where the share begins, and where it ends.
+  abbrev begin : ℕ
+  begin = c .before .held .result
+
+  abbrev end : ℕ
+  end = c .held2 .result
+
+  share : (row : List ℤ) → length row ≡ length k → Share (low row) (low row + wide row) from (from + count) begin end
+  share row e =
+      let d = c .before .before .detector-of .ensures in
+      let at-low : c .before .before .detector-of .result .low ≡ low row = d .0 ∙ ap (λ (n : ℕ). (n - 8) / 2) (sym e) in
+      let at-high : c .before .before .detector-of .result .high ≡ low row + wide row = d .1 ∙ (λ t. at-low t + min 8 (sym e t)) in
+      let begins : min (max (low row) from) (from + count) ≡ begin =
+      sym (c .before .held .ensures ∙ ap (λ (n : ℕ). min (max n from) (from + count)) at-low) in
+      let ends : min (max (low row + wide row) from) (from + count) ≡ end =
+      sym (c .held2 .ensures ∙ ap (λ (n : ℕ). min (max n from) (from + count)) at-high) in
+      subst (λ (n : ℕ). Share (low row) (low row + wide row) from (from + count) n end) begins
+      (subst (λ (n : ℕ). Share (low row) (low row + wide row) from (from + count) (min (max (low row) from) (from + count)) n) ends
+      (share-is (low row) (low row + wide row) from (from + count) (omega arith) (omega arith)))
+
+  -- so it lies within the run
+  starts : from ≤ begin
+  starts = share k refl .starts
+
+  ordered : begin ≤ end
+  ordered = share k refl .ordered
+
+  stops : end ≤ from + count
+  stops = share k refl .ends
+
+  -- as many places of the line as coefficients
+  as-many : place + (end - from) - (place + (begin - from)) ≡ end - begin
+  as-many = omega (arith, starts)
+
+  all-to : from + count - from ≡ count
+  all-to = omega arith
+
+  all-end : place + count - place ≡ count
+  all-end = omega arith
+
+  -- ---- the parts
+
+  part-long : (row : List ℤ) → length row ≡ length k → length (take (end - begin) (drop begin row)) ≡ end - begin
+  part-long row e = length-take-le (end - begin) (drop begin row) (omega (arith, length-drop begin row, stops, in-row, ordered))
+
+  share-beside : Beside (end - begin) (take (end - begin) (drop (place + (begin - from)) i)) (take (end - begin) (drop (place + (begin - from)) q))
+  share-beside =
+      beside-part (place + (begin - from)) (end - begin) (length k) i q (omega (arith, starts, ordered, stops, in-line)) (omega (arith, short, lent .long-i))
+      (omega (arith, short, lent .long-q)) (lent .small-i) (lent .small-q)
+
+  run-beside : Beside count (take count (drop place i)) (take count (drop place q))
+  run-beside =
+      beside-part place count (length k) i q in-line (omega (arith, short, lent .long-i)) (omega (arith, short, lent .long-q)) (lent .small-i) (lent .small-q)
+
+  share-is-run : (row : List ℤ) → length row ≡ length k → zeroOutside (length row) 0 row ≡ true
+      → sumsOver (take (end - begin) (drop begin row)) (take (end - begin) (drop (place + (begin - from)) i))
+      (take (end - begin) (drop (place + (begin - from)) q)) ≡ runOver row i q from place count
+  share-is-run row e z =
+      part-sums row i q begin (place + (begin - from)) (end - begin) (omega (arith, ordered, stops, in-row, e))
+      ∙ share-sums row z from place count (omega (arith, in-row, e)) (share row e) i q
+
+  -- the share is no longer than the run
+  fewer : (m : ℕ) {s : Sums} → SumsUpto (m + length (take (end - begin) (drop begin h))) s → SumsUpto (m + count) s
+  fewer m = sums-wider (omega (arith, part-long h (lent .long-h), starts, stops))
+
+  run-long : length (take count (drop from k)) ≡ count
+  run-long = length-take-le count (drop from k) (omega (arith, length-drop from k, in-row))
+
+add-to : tie.Need-add-to
+add-to c = search needs
+
+add-end : tie.Need-add-end
+add-end c = search needs
+
+detector-of-requires : tie.Need-detector-of-requires
+detector-of-requires c κs = search needs
+
+held-requires : tie.Need-held-requires
+held-requires c κs = search needs
+
+held-requires-2 : tie.Need-held-requires-2
+held-requires-2 c κs = search needs
+
+sub-a : tie.Need-sub-a
+sub-a c = search needs
+
+add-a : tie.Need-add-a
+add-a c = record { fits = omega (arith, short c, in-row c, in-line c, starts c, stops c, ordered c) }
+
+sub-b : tie.Need-sub-b
+sub-b c = search needs
+
+add-b : tie.Need-add-b
+add-b c = record { fits = omega (arith, short c, in-row c, in-line c, starts c, stops c, ordered c) }
 
 mul-detector-run : tie.Need-mul-detector-run
 mul-detector-run c = search needs
@@ -58,76 +170,130 @@ part-detector-run-end : tie.Need-part-detector-run-end
 part-detector-run-end c = search needs
 
 mul-detector-run-2 : tie.Need-mul-detector-run-2
-mul-detector-run-2 c = search needs
+mul-detector-run-2 c = let b = c .before in record { fits = omega (arith, short b, in-row b, in-line b, starts b, stops b, ordered b) }
 
 sub-detector-run-2 : tie.Need-sub-detector-run-2
-sub-detector-run-2 c = search needs
+sub-detector-run-2 c = ordered (c .before)
 
 part-detector-run-start-2 : tie.Need-part-detector-run-start-2
-part-detector-run-start-2 c = search needs
+part-detector-run-start-2 c = ordered (c .before)
 
 part-detector-run-end-2 : tie.Need-part-detector-run-end-2
-part-detector-run-end-2 c = search needs
+part-detector-run-end-2 c = let b = c .before in omega (arith, stops b, in-row b, lent b .long-g)
 
 mul-detector-run-3 : tie.Need-mul-detector-run-3
-mul-detector-run-3 c = search needs
+mul-detector-run-3 c = let b = c .before .before in record { fits = omega (arith, short b, in-row b, in-line b, starts b, stops b, ordered b) }
 
 sub-detector-run-3 : tie.Need-sub-detector-run-3
-sub-detector-run-3 c = search needs
+sub-detector-run-3 c = let b = c .before .before in omega (arith, ordered b)
 
 part-detector-run-start-3 : tie.Need-part-detector-run-start-3
-part-detector-run-start-3 c = search needs
+part-detector-run-start-3 c = let b = c .before .before in omega (arith, ordered b)
 
 part-detector-run-end-3 : tie.Need-part-detector-run-end-3
-part-detector-run-end-3 c = search needs
+part-detector-run-end-3 c = let b = c .before .before in omega (arith, starts b, stops b, in-line b, short b, lent b .long-i)
 
 mul-detector-run-4 : tie.Need-mul-detector-run-4
-mul-detector-run-4 c = search needs
+mul-detector-run-4 c = let b = c .before .before .before in record { fits = omega (arith, short b, in-row b, in-line b, starts b, stops b, ordered b) }
 
 sub-detector-run-4 : tie.Need-sub-detector-run-4
-sub-detector-run-4 c = search needs
+sub-detector-run-4 c = let b = c .before .before .before in omega (arith, ordered b)
 
 part-detector-run-start-4 : tie.Need-part-detector-run-start-4
-part-detector-run-start-4 c = search needs
+part-detector-run-start-4 c = let b = c .before .before .before in omega (arith, ordered b)
 
 part-detector-run-end-4 : tie.Need-part-detector-run-end-4
-part-detector-run-end-4 c = search needs
+part-detector-run-end-4 c = let b = c .before .before .before in omega (arith, starts b, stops b, in-line b, short b, lent b .long-q)
 
 detector-run-requires : tie.Need-detector-run-requires
 detector-run-requires c κs =
-    let s = c .before .before .before .before .before .before in
-    let o = s .pre .0 in
-    let low = s .args .low in
-    let high = s .args .high in (
-      (row-take (high - low) (row-drop low (o .row-h)), (row-take (high - low) (row-drop low (o .row-g)), as-long o)),
-      (middle-beside o, s .pre .1 .detected),
+    let b = c .before .before .before .before in
+    let n = end b - begin b in (
+      (
+        row-take n (row-drop (begin b) (lent b .row-h)),
+        (row-take n (row-drop (begin b) (lent b .row-g)), part-long b (g b) (lent b .long-g) ∙ sym (part-long b (h b) (lent b .long-h))),
+      ),
+      (rw (part-long b (h b) (lent b .long-h), as-many b) (share-beside b), start b .pre .0 .1 .detected),
     )
+
+mul-output-run : tie.Need-mul-output-run
+mul-output-run c = search needs
+
+sub-output-run : tie.Need-sub-output-run
+sub-output-run c = search needs
+
+part-output-run-start : tie.Need-part-output-run-start
+part-output-run-start c = search needs
+
+part-output-run-end : tie.Need-part-output-run-end
+part-output-run-end c = search needs
+
+mul-output-run-2 : tie.Need-mul-output-run-2
+mul-output-run-2 c = search needs
+
+sub-output-run-2 : tie.Need-sub-output-run-2
+sub-output-run-2 c = search needs
+
+part-output-run-start-2 : tie.Need-part-output-run-start-2
+part-output-run-start-2 c = search needs
+
+part-output-run-end-2 : tie.Need-part-output-run-end-2
+part-output-run-end-2 c = let b = c .before .before .before .before .before .before in omega (arith, in-line b, short b, lent b .long-i)
+
+mul-output-run-3 : tie.Need-mul-output-run-3
+mul-output-run-3 c = search needs
+
+sub-output-run-3 : tie.Need-sub-output-run-3
+sub-output-run-3 c = search needs
+
+part-output-run-start-3 : tie.Need-part-output-run-start-3
+part-output-run-start-3 c = search needs
+
+part-output-run-end-3 : tie.Need-part-output-run-end-3
+part-output-run-end-3 c = let b = c .before .before .before .before .before .before .before in omega (arith, in-line b, short b, lent b .long-q)
 
 output-run-requires : tie.Need-output-run-requires
 output-run-requires c κs =
-    let s = c .before .before .before .before .before .before .before in
-    (s .pre .0 .row-k, (s .pre .0 .beside, s .pre .1 .output))
+    let b = c .before .before .before .before .before .before .before .before in (
+      rw (all-to b) (row-take (count b) (row-drop (from b) (lent b .row-k))),
+      (rw (all-to b, all-end b, run-long b) (run-beside b), start b .pre .0 .1 .output),
+    )
 
 returns : tie.Need-returns
 returns c =
-    let s = c .before .before .before .before .before .before .before .before in
-    let o = s .pre .0 in
-    let d = c .before .detector-run .ensures in
-    let k = c .output-run .ensures in
-    let before = s .args .before .detected in
+    let r = c .before .before .before .before in
+    let b = r .before .before .before .before .before in
+    let d = r .detector-run .ensures in
+    let o = c .output-run .ensures in
+    let before = start b .args .before in
+    let in-h = rw (as-many b) at (d .of-h) in
+    let in-g = rw (as-many b) at (d .of-g) in
+    let in-k = rw (all-to b, all-end b) at (o .of-k) in
     record {
-      of-h = d .of-h ∙ ap (together (before .h)) (h-sums o);
-      of-g = d .of-g ∙ ap (together (before .g)) (g-sums o);
-      of-k = k .of-k;
-      few = λ n u.
-          let r = d .few n (u .detected) in
-          record { detected = record { h = fewer o n (r .h); g = fewer o n (r .g) }; output = k .few n (u .output) };
+      of-h = in-h ∙ ap (together (before .detected .h)) (share-is-run b (h b) (lent b .long-h) (lent b .centred-h));
+      of-g = in-g ∙ ap (together (before .detected .g)) (share-is-run b (g b) (lent b .long-g) (lent b .centred-g));
+      of-k = in-k ∙ ap (together (unraisedSums (before .output))) (part-sums (k b) (i b) (q b) (from b) (place b) (count b) (in-row b));
+      few = λ m u.
+          let few = d .few m (u .detected) in
+          record {
+            detected = record { h = fewer b m (few .h); g = fewer b m (few .g) };
+            output = raised-wider (omega (arith, run-long b, all-to b)) (o .few m (u .output));
+          };
     }
 
 pub line-run-spec : {M : Type 1} → statement M
 line-run-spec =
     tie.close
     (tie.spec
+    add-to
+    add-end
+    detector-of-requires
+    held-requires
+    held-requires-2
+    sub-a
+    add-a
+    sub-b
+    add-b
     mul-detector-run
     sub-detector-run
     part-detector-run-start
@@ -145,5 +311,17 @@ line-run-spec =
     part-detector-run-start-4
     part-detector-run-end-4
     detector-run-requires
+    mul-output-run
+    sub-output-run
+    part-output-run-start
+    part-output-run-end
+    mul-output-run-2
+    sub-output-run-2
+    part-output-run-start-2
+    part-output-run-end-2
+    mul-output-run-3
+    sub-output-run-3
+    part-output-run-start-3
+    part-output-run-end-3
     output-run-requires
     returns)

@@ -57,7 +57,7 @@ module _ (s : tie.Start) where
   k-long : length (row k) ≡ taps
   k-long = row-long k (accepted .lengths .long-k)
 
-  filterable : Filterable (row h) (row g) (row k) (s .args .i .now) (s .args .q .now) (s .args .w .head)
+  filterable : Filterable (row h) (row g) (row k) (s .args .i .now) (s .args .q .now)
   filterable =
       let l = accepted .lengths in
       let b = accepted .banks in
@@ -69,7 +69,6 @@ module _ (s : tie.Start) where
         long-g = row-long g (l .long-g) ∙ sym k-long;
         centred-h = part-centred taps phase (s .pre .1) h (l .long-h) (b .outside-h);
         centred-g = part-centred taps phase (s .pre .1) g (l .long-g) (b .outside-g);
-        newest = rw k-long (s .pre .0 .head);
         long-i = s .pre .0 .long-i;
         long-q = s .pre .0 .long-q;
         small-i = rw k-long (s .pre .0 .small-i);
@@ -132,7 +131,7 @@ part-filter-end-3 : tie.Need-part-filter-end-3
 part-filter-end-3 c = let s = c .before .before .before .before .before in omega (arith, inside s, accepted s .lengths .long-k)
 
 filter-requires : tie.Need-filter-requires
-filter-requires c κs = filterable (c .before .before .before .before .before .before)
+filter-requires c κs = let s = c .before .before .before .before .before .before in (filterable s, rw (k-long s) (s .pre .0 .head))
 
 returns : tie.Need-returns
 returns c =
