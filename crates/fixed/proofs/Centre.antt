@@ -1,20 +1,20 @@
--- Rows of the timing detector's, and a run over a part of one. Outside the detector's places their coefficients are zero and add nothing, so a run's sum over
+-- Rows of the timing detector, and a run over a part of one. Outside the detector's places their coefficients are zero and add nothing, so a run's sum over
 -- its share of the places is its sum over all.
 use Prim.Native.Nat.{ℕ, zero, suc, _+_, _-_, _/_, _≤_, _<_, min, max}
 use mathlib.Core.Path.{_≡_, refl, sym, ap, _∙_}
 use mathlib.Core.Bool.{true}
 use mathlib.Core.List.{List}
 use native.Mathlib.Omega.{arith}
-use lib.ListN.{length, getD, take, drop, length-drop, take-append-drop}
+use lib.ListN.{length, getD, take, drop, length-drop}
 use lib.Seq.{length-take-le, getD-take, getD-drop}
 use lib.IntN.{ℤ, pos, negsuc, natAbs, _+ℤ_, _*ℤ_, zero-*ℤ, +ℤ-idl, +ℤ-idr}
 use borrow.Author.Tests.{eqb-true}
 use Rattle.params.specs.Banks.{magnitudes, zeroOutside}
-use Rattle.params.proofs.Rows.{magnitudes-append, centred}
+use Rattle.params.proofs.Rows.{centred}
 use Rattle.fixed.specs.Filter.{sumTo}
-use Rattle.fixed.specs.Inside.{lowered, runOver}
-use Rattle.fixed.proofs.Parts.{mag-each}
-use Rattle.fixed.proofs.RowSums.{sum-same, sum-split}
+use Rattle.fixed.specs.Inside.{lowered}
+use Rattle.fixed.proofs.Parts.{mag-split, mag-each}
+use Rattle.fixed.proofs.RowSums.{sum-same, sum-split, runOver}
 
 -- ---- the coefficients outside
 
@@ -42,10 +42,7 @@ module _ (row : List ℤ) (z : zeroOutside (length row) 0 row ≡ true) where
   all-in = sym (eqb-true (magnitudes (middle row)) (magnitudes row) (centred row ∙ z))
 
   split : magnitudes row ≡ magnitudes (take (low row) row) + (magnitudes (middle row) + magnitudes (behind row))
-  split =
-      ap magnitudes (sym (take-append-drop (low row) row)) ∙ magnitudes-append (take (low row) row) (drop (low row) row)
-      ∙ ap (λ (n : ℕ). magnitudes (take (low row) row) + n) (ap magnitudes (sym (take-append-drop (wide row) (drop (low row) row)))
-      ∙ magnitudes-append (middle row) (behind row))
+  split = sym (mag-split row (low row)) ∙ ap (λ (n : ℕ). magnitudes (take (low row) row) + n) (sym (mag-split (drop (low row) row) (wide row)))
 
   front-zero : (n : ℕ) → n < low row → getD row n (pos 0) ≡ pos 0
   front-zero n h =

@@ -1,4 +1,5 @@
--- Arrays that a loop fills place by place, one a turn: what they hold after n turns.
+-- Arrays that a loop fills place by place, one a turn: what they hold after n turns. A turn writes place n alone, so what held of the places before it goes on
+-- holding, and of place n it is seen at once.
 use Prim.Native.Nat.{ℕ, _+_, _≤_, _<_}
 use mathlib.Core.Path.{_≡_, refl, sym, subst, _∙_}
 use mathlib.Core.Bool.{Bool, true, false}

@@ -32,7 +32,7 @@ use Rattle.fixed.specs.Filter.{filtered}
 use Rattle.fixed.specs.Queue.{oldestErrors}
 use Rattle.fixed.specs.Sample.{due, symbolOf, joined, withSymbol, withoutSymbol, falls, next, madeBy}
 use Rattle.state.specs.Check.{goodState, outline}
-use Rattle.fixed.specs.Inside.{lowered, In32, pairAt, Laid, Queued, errorsAt, Kept, kept, Stands, Ready, GoesOn}
+use Rattle.fixed.specs.Inside.{lowered, In32, LineKept, pairAt, Laid, Queued, errorsAt, Kept, kept, Stands, Ready, GoesOn}
 use Rattle.state.proofs.Going.{time, Going, going, good}
 use Rattle.fixed.proofs.States.{head-below, due-within, without-symbol-going, with-symbol-going}
 use Rattle.fixed.proofs.OneStep.{one-step}
@@ -40,7 +40,7 @@ use Rattle.fixed.proofs.OneStep.{one-step}
 -- ---- the line
 
 -- a pair takes a place
-pub laid-joined : {taps : ℕ} {i q : List ℕ} {line : List Pair} (head x y : ℕ) (m : Pair) → lowered x ≡ m .i → lowered y ≡ m .q → head < taps → taps ≤ 64
+laid-joined : {taps : ℕ} {i q : List ℕ} {line : List Pair} (head x y : ℕ) (m : Pair) → lowered x ≡ m .i → lowered y ≡ m .q → head < taps → taps ≤ 64
     → Laid taps i q line → Laid taps (set i head x) (set q head y) (set line head m)
 laid-joined {taps} {i} {q} {line} head x y m ex ey h k laid = record {
   long-i = length-set i head x ∙ laid .long-i;
@@ -71,6 +71,15 @@ in32-joined taps kept head x small h k long old n b = go (eqb n head) refl
     go : (b : Bool) → eqb n head ≡ b → getD (set kept head x) n 0 < 4294967296
     go true e = rw (eqb-true n head e, getD-set-same kept head x 0 (omega arith)) small
     go false e = let other = eqb-false n head e in rw (getD-set-other kept head n x 0 (omega arith)) (old n b)
+
+line-joined : {taps : ℕ} {i q : List ℕ} (head x y : ℕ) → x < 4294967296 → y < 4294967296 → head < taps → taps ≤ 64 → LineKept taps i q
+    → LineKept taps (set i head x) (set q head y)
+line-joined {taps} {i} {q} head x y small-x small-y h k line = record {
+  long-i = length-set i head x ∙ line .long-i;
+  long-q = length-set q head y ∙ line .long-q;
+  small-i = in32-joined taps i head x small-x h k (line .long-i) (line .small-i);
+  small-q = in32-joined taps q head y small-y h k (line .long-q) (line .small-q);
+}
 
 -- ---- the queue
 
@@ -223,8 +232,7 @@ module _ {s : Sheet} {x : Kept} (ready : Ready s x) where
             subst (λ (d : Registers). goodState p (outline (left d) (afterSymbolAt (p .delay) w)) ≡ true) due₀
             (good p (withSymbol s f₀) (with-symbol-going s accepted f₀ soon going₀));
         samples = refl;
-        small-i = ready .begun .small-i;
-        small-q = ready .begun .small-q;
+        line = ready .begun .line;
       }
 
   module _ (f : Frontend) (stands : Stands (p .taps) x f) where
@@ -281,8 +289,7 @@ module _ {s : Sheet} {x : Kept} (ready : Ready s x) where
       record {
         good = good p (withoutSymbol f₀) (without-symbol-going s accepted f₀ late going₀);
         samples = refl;
-        small-i = ready .begun .small-i;
-        small-q = ready .begun .small-q;
+        line = ready .begun .line;
       }
 
   -- ---- a sample joins
@@ -316,10 +323,7 @@ module _ {s : Sheet} {x : Kept} (ready : Ready s x) where
             oldest = ready-going .oldest;
             few = ready-going .few;
           });
-      long-i = length-set (x .i) head a ∙ ready .begun .long-i;
-      long-q = length-set (x .q) head b ∙ ready .begun .long-q;
-      small-i = in32-joined (p .taps) (x .i) head a small-a (head-fits .0) (head-fits .1) (ready .begun .long-i) (ready .begun .small-i);
-      small-q = in32-joined (p .taps) (x .q) head b small-b (head-fits .0) (head-fits .1) (ready .begun .long-q) (ready .begun .small-q);
+      line = line-joined head a b small-a small-b (head-fits .0) (head-fits .1) (ready .begun .line);
       long-e = ready .begun .long-e;
       long-err = ready .begun .long-err;
     };

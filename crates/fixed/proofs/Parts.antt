@@ -1,6 +1,6 @@
--- Parts of an accepted row and of the line's numbers. Magnitudes only add up, so a part of a row has no more of them than the row; and what holds of each number
--- holds of each number of a part.
-use Prim.Native.Nat.{ℕ, zero, suc, _+_, _-_, _≤_, _<_}
+-- Parts of an accepted row and of the line's numbers. Magnitudes only add up, so a part of a row has no more of them than the row; and what holds of each
+-- number holds of each number of a part.
+use Prim.Native.Nat.{ℕ, _+_, _≤_, _<_}
 use mathlib.Core.Path.{_≡_, sym, ap, _∙_}
 use mathlib.Core.List.{List}
 use native.Mathlib.Numerals.{add-one}
@@ -14,7 +14,7 @@ use Rattle.fixed.specs.Inside.{In32, Row, Beside}
 
 -- ---- rows
 
-mag-split : (row : List ℤ) (n : ℕ) → magnitudes (take n row) + magnitudes (drop n row) ≡ magnitudes row
+pub mag-split : (row : List ℤ) (n : ℕ) → magnitudes (take n row) + magnitudes (drop n row) ≡ magnitudes row
 mag-split row n = sym (magnitudes-append (take n row) (drop n row)) ∙ ap magnitudes (take-append-drop n row)
 
 pub mag-each : (row : List ℤ) (n : ℕ) → n < length row → natAbs (getD row n (pos 0)) ≤ magnitudes row

@@ -6,28 +6,30 @@ use mathlib.Core.List.{List}
 use native.Mathlib.Nat.{mul-le-mul, suc-mul}
 use native.Mathlib.Numerals.{add-one}
 use native.Mathlib.Omega.{arith}
+use lib.Dec.{T}
 use lib.ListN.{length, getD}
-use lib.IntN.{ℤ, pos, negsuc, natAbs, _+ℤ_, _-ℤ_, _*ℤ_, zero-*ℤ, *ℤ-comm, +ℤ-assoc, +ℤ-idr, +ℤ-negℤ-cancel}
+use lib.IntN.{ℤ, pos, natAbs, _+ℤ_, _-ℤ_, _*ℤ_, zero-*ℤ, *ℤ-comm, +ℤ-assoc, +ℤ-idr, +ℤ-negℤ-cancel}
+use lib.Signed.{nonNeg, pos-natAbs}
 use mir.Syntax.{w32}
-use mir.Val.{SFits}
+use mir.Val.{Fits, SFits}
 use Rattle.arith.proofs.Magnitude.{abs-add, abs-mul-le}
 use Rattle.arith.proofs.Bits.{fit-abs}
-use Rattle.arith.proofs.Order.{P, N, abs-pn, add-pn, minus-pn, eq-pn, pn-fit}
+use Rattle.arith.proofs.Order.{abs-pn, add-pn, minus-pn, eq-pn, pn-fit, unsign}
 use Rattle.arith.proofs.Products.{add-mul, mul-minus}
 use Rattle.symbol.specs.declared.Sums.{Sums}
 use Rattle.fixed.specs.declared.filter.Raised.{Raised}
 use Rattle.fixed.specs.declared.filter.Summed.{Summed}
 use Rattle.fixed.specs.Filter.{sumTo}
 use Rattle.fixed.specs.TwoRuns.{together}
-use Rattle.fixed.specs.Inside.{lowered, sumOver, sumsOver, unraised, unraisedSums, SumsUpto, RaisedUpto, SummedUpto}
+use Rattle.fixed.specs.Inside.{lowered, sumOver, sumsOver, unraised, unraisedSums, oneTapMore, SumsUpto, RaisedUpto, SummedUpto}
 
 -- ---- sums
 
-pub sum-suc : (f : ℕ → ℤ) (n : ℕ) → sumTo f (n + 1) ≡ sumTo f n +ℤ f n
+sum-suc : (f : ℕ → ℤ) (n : ℕ) → sumTo f (n + 1) ≡ sumTo f n +ℤ f n
 unfolding sumTo
 sum-suc f n = rw add-one
 
-pub sum-none : (f : ℕ → ℤ) → sumTo f 0 ≡ pos 0
+sum-none : (f : ℕ → ℤ) → sumTo f 0 ≡ pos 0
 unfolding sumTo
 sum-none f = refl
 
@@ -88,13 +90,13 @@ pub record Grown (f : ℕ → ℤ) (B n : ℕ) (z₀ z : ℤ) : Type 0 where
   pub is : z ≡ z₀ +ℤ sumTo f n
   pub few : (m : ℕ) → natAbs z₀ ≤ m * B → natAbs z ≤ (m + n) * B
 
-pub grown-none : (f : ℕ → ℤ) (B : ℕ) (z : ℤ) → Grown f B 0 z z
+grown-none : (f : ℕ → ℤ) (B : ℕ) (z : ℤ) → Grown f B 0 z z
 grown-none f B z = record {
   is = sym (ap (λ (y : ℤ). z +ℤ y) (sum-none f) ∙ +ℤ-idr z);
   few = λ m h. let e : m + 0 ≡ m = omega arith in rw e h;
 }
 
-pub grown-more : {f : ℕ → ℤ} {B n : ℕ} {z₀ z : ℤ} (y : ℤ) → y ≡ f n → natAbs y ≤ B → Grown f B n z₀ z → Grown f B (n + 1) z₀ (z +ℤ y)
+grown-more : {f : ℕ → ℤ} {B n : ℕ} {z₀ z : ℤ} (y : ℤ) → y ≡ f n → natAbs y ≤ B → Grown f B n z₀ z → Grown f B (n + 1) z₀ (z +ℤ y)
 grown-more {f} {B} {n} {z₀} {z} y e h g = record {
   is =
       ap (λ (x : ℤ). z +ℤ x) e ∙ ap (λ (x : ℤ). x +ℤ f n) (g .is) ∙ +ℤ-assoc z₀ (sumTo f n) (f n)
@@ -113,6 +115,9 @@ coefficient row n = getD row n (pos 0)
 abbrev pub term : List ℤ → List ℕ → ℕ → ℤ
 term row kept n = coefficient row n *ℤ lowered (getD kept n 0)
 
+pub product-small : (c x : ℤ) → natAbs c ≤ 131071 → natAbs x ≤ 2147483648 → natAbs (c *ℤ x) ≤ 2 ^ 48
+product-small c x h k = omega (arith, abs-mul-le c x 131071 2147483648 h k)
+
 -- a raised number of 32 bits, lowered, is one of 32 bits signed
 pub lowered-fits : (u : ℕ) → u < 4294967296 → SFits w32 (lowered u)
 lowered-fits u h =
@@ -122,10 +127,16 @@ lowered-fits u h =
 pub lowered-small : (u : ℕ) → u < 4294967296 → natAbs (lowered u) ≤ 2147483648
 lowered-small u h = fit-abs (lowered-fits u h)
 
-pub term-small : (row : List ℤ) (kept : List ℕ) (n : ℕ) → natAbs (coefficient row n) ≤ 131071 → getD kept n 0 < 4294967296
+term-small : (row : List ℤ) (kept : List ℕ) (n : ℕ) → natAbs (coefficient row n) ≤ 131071 → getD kept n 0 < 4294967296
     → natAbs (term row kept n) ≤ 2 ^ 48
-term-small row kept n h x =
-    omega (arith, abs-mul-le (coefficient row n) (lowered (getD kept n 0)) 131071 2147483648 h (lowered-small (getD kept n 0) x))
+term-small row kept n h x = product-small (coefficient row n) (lowered (getD kept n 0)) h (lowered-small (getD kept n 0) x)
+
+-- A run's sums (specs/TwoRuns), over what is kept of the line.
+unfoldable pub runOver : List ℤ → List ℕ → List ℕ → ℕ → ℕ → ℕ → Sums
+runOver row i q from place count = record {
+  i = sumTo (λ n. coefficient row (from + n) *ℤ lowered (getD i (place + n) 0)) count;
+  q = sumTo (λ n. coefficient row (from + n) *ℤ lowered (getD q (place + n) 0)) count;
+}
 
 -- both components
 pub record Added (row : List ℤ) (i q : List ℕ) (n : ℕ) (s₀ s : Sums) : Type 0 where
@@ -142,8 +153,8 @@ added-more {row} {i} {q} {n} h x y a = record {
   in-q = grown-more (term row q n) refl (term-small row q n h y) (a .in-q);
 }
 
-pub added-few : {row : List ℤ} {i q : List ℕ} {n : ℕ} {s₀ s : Sums} → Added row i q n s₀ s → (m : ℕ) → SumsUpto m s₀ → SumsUpto (m + n) s
-added-few a m b = record { i = a .in-i .few m (b .i); q = a .in-q .few m (b .q) }
+pub added-upto : {row : List ℤ} {i q : List ℕ} {n : ℕ} {s₀ s : Sums} → Added row i q n s₀ s → (m : ℕ) → SumsUpto m s₀ → SumsUpto (m + n) s
+added-upto a m b = record { i = a .in-i .few m (b .i); q = a .in-q .few m (b .q) }
 
 -- a wider bound
 pub sums-wider : {a b : ℕ} {s : Sums} → a ≤ b → SumsUpto a s → SumsUpto b s
@@ -161,27 +172,27 @@ kept-at kept n = pos (getD kept n 0)
 abbrev pub raised-term : List ℤ → List ℕ → ℕ → ℤ
 raised-term row kept n = (coefficient row n +ℤ pos 131072) *ℤ kept-at kept n
 
-raised-whole : (c : ℤ) → natAbs c ≤ 131071 → pos (natAbs (c +ℤ pos 131072)) ≡ c +ℤ pos 131072
-raised-whole c h = nonneg-is (c +ℤ pos 131072) (omega (arith, add-pn c (pos 131072), abs-pn c))
-  where
-    nonneg-is : (z : ℤ) → N z ≤ P z → pos (natAbs z) ≡ z
-    nonneg-is (pos n) q = refl
-    nonneg-is (negsuc n) q = let z : ⊥ = omega arith in absurd z
+-- a coefficient of 18 bits, raised, is a number from 1 to 262143
+pub raised-small : (c : ℤ) → natAbs c ≤ 131071 → natAbs (c +ℤ pos 131072) ≤ 262143
+raised-small c h = omega (arith, abs-add c (pos 131072))
+
+pub raised-whole : (c : ℤ) → natAbs c ≤ 131071 → T (nonNeg (c +ℤ pos 131072)) × Fits w32 (natAbs (c +ℤ pos 131072))
+raised-whole c h = unsign w32 (c +ℤ pos 131072) (omega (arith, add-pn c (pos 131072), abs-pn c)) (omega (arith, add-pn c (pos 131072), abs-pn c))
 
 raised-grown : (row : List ℤ) (kept : List ℕ) {n u₀ u : ℕ} → natAbs (coefficient row n) ≤ 131071 → getD kept n 0 < 4294967296
     → Grown (raised-term row kept) (2 ^ 50) n (pos u₀) (pos u)
     → Grown (raised-term row kept) (2 ^ 50) (n + 1) (pos u₀) (pos (u + natAbs (coefficient row n +ℤ pos 131072) * getD kept n 0))
 raised-grown row kept {n} h x g =
-    let a : natAbs (coefficient row n +ℤ pos 131072) ≤ 262143 = omega (arith, abs-add (coefficient row n) (pos 131072)) in
+    let c : ℤ = coefficient row n +ℤ pos 131072 in
     let b : getD kept n 0 ≤ 4294967295 = omega arith in
-    grown-more (pos (natAbs (coefficient row n +ℤ pos 131072) * getD kept n 0)) (ap (λ (z : ℤ). z *ℤ kept-at kept n) (raised-whole (coefficient row n) h))
-    (omega (arith, mul-le-mul a b)) g
+    grown-more (pos (natAbs c * getD kept n 0)) (ap (λ (z : ℤ). z *ℤ kept-at kept n) (pos-natAbs c (raised-whole (coefficient row n) h .0)))
+    (omega (arith, mul-le-mul (raised-small (coefficient row n) h) b)) g
 
 -- all that is summed of it
 pub record Taken (row : List ℤ) (i q : List ℕ) (n : ℕ) (s₀ s : Raised) : Type 0 where
   pub in-i : Grown (raised-term row i) (2 ^ 50) n (pos (s₀ .i)) (pos (s .i))
   pub in-q : Grown (raised-term row q) (2 ^ 50) n (pos (s₀ .q)) (pos (s .q))
-  pub weight : Grown (coefficient row) (2 ^ 17) n (s₀ .coefficients) (s .coefficients)
+  pub coefficients : Grown (coefficient row) (2 ^ 17) n (s₀ .coefficients) (s .coefficients)
   pub line-i : Grown (kept-at i) (2 ^ 32) n (pos (s₀ .«line_i»)) (pos (s .«line_i»))
   pub line-q : Grown (kept-at q) (2 ^ 32) n (pos (s₀ .«line_q»)) (pos (s .«line_q»))
 
@@ -189,19 +200,9 @@ pub taken-none : (row : List ℤ) (i q : List ℕ) (s : Raised) → Taken row i 
 taken-none row i q s = record {
   in-i = grown-none (raised-term row i) (2 ^ 50) (pos (s .i));
   in-q = grown-none (raised-term row q) (2 ^ 50) (pos (s .q));
-  weight = grown-none (coefficient row) (2 ^ 17) (s .coefficients);
+  coefficients = grown-none (coefficient row) (2 ^ 17) (s .coefficients);
   line-i = grown-none (kept-at i) (2 ^ 32) (pos (s .«line_i»));
   line-q = grown-none (kept-at q) (2 ^ 32) (pos (s .«line_q»));
-}
-
--- The sums with one tap more.
-abbrev pub oneTapMore : Raised → ℤ → ℕ → ℕ → Raised
-oneTapMore s c x y = record {
-  i = s .i + natAbs (c +ℤ pos 131072) * x;
-  q = s .q + natAbs (c +ℤ pos 131072) * y;
-  coefficients = s .coefficients +ℤ c;
-  «line_i» = s .«line_i» + x;
-  «line_q» = s .«line_q» + y;
 }
 
 pub taken-more : {row : List ℤ} {i q : List ℕ} {n : ℕ} {s₀ s : Raised} → natAbs (coefficient row n) ≤ 131071 → getD i n 0 < 4294967296
@@ -209,16 +210,16 @@ pub taken-more : {row : List ℤ} {i q : List ℕ} {n : ℕ} {s₀ s : Raised} �
 taken-more {row} {i} {q} {n} h x y t = record {
   in-i = raised-grown row i h x (t .in-i);
   in-q = raised-grown row q h y (t .in-q);
-  weight = grown-more (coefficient row n) refl (omega arith) (t .weight);
+  coefficients = grown-more (coefficient row n) refl (omega arith) (t .coefficients);
   line-i = grown-more (kept-at i n) refl (omega arith) (t .line-i);
   line-q = grown-more (kept-at q n) refl (omega arith) (t .line-q);
 }
 
-pub taken-few : {row : List ℤ} {i q : List ℕ} {n : ℕ} {s₀ s : Raised} → Taken row i q n s₀ s → (m : ℕ) → RaisedUpto m s₀ → RaisedUpto (m + n) s
-taken-few t m b = record {
+pub taken-upto : {row : List ℤ} {i q : List ℕ} {n : ℕ} {s₀ s : Raised} → Taken row i q n s₀ s → (m : ℕ) → RaisedUpto m s₀ → RaisedUpto (m + n) s
+taken-upto t m b = record {
   i = t .in-i .few m (b .i);
   q = t .in-q .few m (b .q);
-  coefficients = t .weight .few m (b .coefficients);
+  coefficients = t .coefficients .few m (b .coefficients);
   line-i = t .line-i .few m (b .line-i);
   line-q = t .line-q .few m (b .line-q);
 }
@@ -266,6 +267,6 @@ pub taken-all : {row : List ℤ} {i q : List ℕ} {s₀ s : Raised} → Taken ro
     → unraisedSums s ≡ together (unraisedSums s₀) (sumsOver row i q)
 unfolding sumsOver
 taken-all {row} {i} {q} t =
-    let x = unraised-all row i (t .in-i) (t .line-i) (t .weight) in
-    let y = unraised-all row q (t .in-q) (t .line-q) (t .weight) in
+    let x = unraised-all row i (t .in-i) (t .line-i) (t .coefficients) in
+    let y = unraised-all row q (t .in-q) (t .line-q) (t .coefficients) in
     λ m. record { i = x m; q = y m }

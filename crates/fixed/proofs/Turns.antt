@@ -163,11 +163,9 @@ module _ (s : Sheet) (values : List ℤ) (out₀ : List ℤ) (x₀ : Kept) where
       let one-more : n + 1 ≡ suc n = omega arith in
       ap some one-more ∙ take-suc (pairsOf values) n noPair (omega (arith, pairs-long values)) ∙ ap (λ (z : Pair). some n ++ (z ∷ [])) e
 
-  -- What one sample, read at turn n, leaves: arrays of the same sizes, and all that `push` promises.
+  -- What one sample, read at turn n, leaves: all that `push` promises, and waiting errors in as many places.
   pub record Turn (x y : Kept) (a : Pair) (made : Bool) (symbol : Symbol) : Type 0 where
     pub pushes : Pushes s x y a made symbol
-    pub long-i : length (y .i) ≡ length (x .i)
-    pub long-q : length (y .q) ≡ length (x .q)
     pub long-e : length (y .e) ≡ length (x .e)
     pub long-err : length (y .err) ≡ length (x .err)
 
@@ -182,10 +180,7 @@ module _ (s : Sheet) (values : List ℤ) (out₀ : List ℤ) (x₀ : Kept) where
           begun = record {
             accepted = t .begun .accepted;
             good = turn .pushes .on .good;
-            long-i = turn .long-i ∙ t .begun .long-i;
-            long-q = turn .long-q ∙ t .begun .long-q;
-            small-i = turn .pushes .on .small-i;
-            small-q = turn .pushes .on .small-q;
+            line = turn .pushes .on .line;
             long-e = turn .long-e ∙ t .begun .long-e;
             long-err = turn .long-err ∙ t .begun .long-err;
           };
@@ -229,8 +224,7 @@ module _ (s : Sheet) (values : List ℤ) (out₀ : List ℤ) (x₀ : Kept) where
       let output : (f : Frontend) → First f → Output (emitted s f (pairsOf values)) out₀ out count =
       λ f first. subst (λ (xs : List Pair). Output (emitted s f xs) out₀ out count) all (t .output f first) in
       record {
-        small-i = t .begun .small-i;
-        small-q = t .begun .small-q;
+        line = t .begun .line;
         counted = λ f first. output f first .counted;
         clipped = λ f first. t .clipped f first ∙ ap (λ (xs : List Pair). clipsOf (emitted s f xs)) all;
         written = λ f first. output f first .places;

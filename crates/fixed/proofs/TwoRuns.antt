@@ -1,7 +1,7 @@
 -- The two runs over the line. Up to the end of the line the n-th newest number stands n places behind the newest, and beyond it as many places from the line's
 -- beginning as are left; so a row's sum over the ring splits where the line ends.
 use Prim.Native.Nat.{ℕ, _+_, _-_, _%_, _≤_, _<_}
-use mathlib.Core.Path.{_≡_, refl, sym, ap, _∙_}
+use mathlib.Core.Path.{_≡_, sym, ap, _∙_}
 use mathlib.Core.List.{List}
 use native.Mathlib.Nat.{mod-eq-of-lt, add-mod-right}
 use native.Mathlib.Omega.{arith}
@@ -12,9 +12,9 @@ use Rattle.state.specs.declared.Pair.{Pair}
 use Rattle.state.specs.Start.{noPair}
 use Rattle.fixed.specs.Line.{nthNewest}
 use Rattle.fixed.specs.Filter.{sumTo, sumsOf}
-use Rattle.fixed.specs.TwoRuns.{runSums, together, TwoRuns}
-use Rattle.fixed.specs.Inside.{lowered, pairAt, Laid, sumOver, sumsOver, runOver}
-use Rattle.fixed.proofs.RowSums.{sum-same, sum-split, coefficient, term}
+use Rattle.fixed.specs.TwoRuns.{runSums, TwoRuns}
+use Rattle.fixed.specs.Inside.{lowered, pairAt, Laid, sumOver, sumsOver}
+use Rattle.fixed.proofs.RowSums.{sum-same, sum-split, coefficient, term, runOver}
 
 -- ---- the claim
 
@@ -27,23 +27,23 @@ module _ (taps : ℕ) (row : List ℤ) (line : List Pair) (head : ℕ) (h : head
   far n l = let e : head + (taps - head + n) ≡ n + taps = omega arith in ap (λ (m : ℕ). m % taps) e ∙ add-mod-right n taps ∙ mod-eq-of-lt (omega arith)
 
   -- one component of a row's sums
-  newest : ℕ → ℤ
-  newest n = coefficient row n *ℤ of (getD line ((head + n) % taps) noPair)
+  ring-term : ℕ → ℤ
+  ring-term n = coefficient row n *ℤ of (getD line ((head + n) % taps) noPair)
 
   in-two : sumTo (λ n. coefficient row (0 + n) *ℤ of (getD line (head + n) noPair)) (taps - head)
-      +ℤ sumTo (λ n. coefficient row (taps - head + n) *ℤ of (getD line (0 + n) noPair)) head ≡ sumTo newest taps
-  unfolding newest
+      +ℤ sumTo (λ n. coefficient row (taps - head + n) *ℤ of (getD line (0 + n) noPair)) head ≡ sumTo ring-term taps
+  unfolding ring-term
   in-two =
       let e : taps - head + head ≡ taps = omega arith in
       let from-0 : (n : ℕ) → 0 + n ≡ n = λ n. omega arith in
-      let first = sum-same (λ n. coefficient row (0 + n) *ℤ of (getD line (head + n) noPair)) newest (taps - head)
+      let first = sum-same (λ n. coefficient row (0 + n) *ℤ of (getD line (head + n) noPair)) ring-term (taps - head)
       (λ n l. λ t. coefficient row (from-0 n t) *ℤ of (getD line (sym (near n l) t) noPair)) in
-      let second = sum-same (λ n. coefficient row (taps - head + n) *ℤ of (getD line (0 + n) noPair)) (λ n. newest (taps - head + n)) head
+      let second = sum-same (λ n. coefficient row (taps - head + n) *ℤ of (getD line (0 + n) noPair)) (λ n. ring-term (taps - head + n)) head
       (λ n l. ap (λ (m : ℕ). coefficient row (taps - head + n) *ℤ of (getD line m noPair)) (from-0 n ∙ sym (far n l))) in
-      (λ t. first t +ℤ second t) ∙ sym (sum-split newest (taps - head) head) ∙ ap (sumTo newest) e
+      (λ t. first t +ℤ second t) ∙ sym (sum-split ring-term (taps - head) head) ∙ ap (sumTo ring-term) e
 
 pub two-runs : TwoRuns
-unfolding runSums sumsOf nthNewest newest
+unfolding runSums sumsOf nthNewest ring-term
 two-runs taps row line head h =
     let x = in-two taps row line head h (λ (a : Pair). a .i) in
     let y = in-two taps row line head h (λ (a : Pair). a .q) in
@@ -71,20 +71,14 @@ pub part-sums : (row : List ℤ) (i q : List ℕ) (from place n : ℕ) → from 
 unfolding sumsOver runOver
 part-sums row i q from place n h = λ t. record { i = part-sum row i from place n h t; q = part-sum row q from place n h t }
 
-module _ (taps : ℕ) (row : List ℤ) (i q : List ℕ) (line : List Pair) (laid : Laid taps i q line) where
-  -- they are runs over the line
-  run-laid : (from place count : ℕ) → place + count ≤ taps → runOver row i q from place count ≡ runSums row line from place count
-  unfolding runOver runSums
-  run-laid from place count h =
-      let at : (n : ℕ) → n < count → pairAt i q (place + n) ≡ getD line (place + n) noPair = λ n l. sym (laid .each (place + n) (omega arith)) in
-      let x = sum-same (λ n. coefficient row (from + n) *ℤ lowered (getD i (place + n) 0))
-      (λ n. coefficient row (from + n) *ℤ getD line (place + n) noPair .i) count (λ n l. λ t. coefficient row (from + n) *ℤ at n l t .i) in
-      let y = sum-same (λ n. coefficient row (from + n) *ℤ lowered (getD q (place + n) 0))
-      (λ n. coefficient row (from + n) *ℤ getD line (place + n) noPair .q) count (λ n l. λ t. coefficient row (from + n) *ℤ at n l t .q) in
-      λ t. record { i = x t; q = y t }
-
-  -- and both together are the definition's sums
-  pub runs-are : (head : ℕ) → head < taps → together (runOver row i q 0 head (taps - head)) (runOver row i q (taps - head) 0 head) ≡ sumsOf taps row line head
-  runs-are head h =
-      (λ t. together (run-laid 0 head (taps - head) (omega arith) t) (run-laid (taps - head) 0 head (omega arith) t))
-      ∙ two-runs taps row line head h
+-- they are runs over the line
+pub run-laid : (taps : ℕ) (row : List ℤ) (i q : List ℕ) (line : List Pair) → Laid taps i q line → (from place count : ℕ) → place + count ≤ taps
+    → runOver row i q from place count ≡ runSums row line from place count
+unfolding runOver runSums
+run-laid taps row i q line laid from place count h =
+    let at : (n : ℕ) → n < count → pairAt i q (place + n) ≡ getD line (place + n) noPair = λ n l. sym (laid .each (place + n) (omega arith)) in
+    let x = sum-same (λ n. coefficient row (from + n) *ℤ lowered (getD i (place + n) 0))
+    (λ n. coefficient row (from + n) *ℤ getD line (place + n) noPair .i) count (λ n l. λ t. coefficient row (from + n) *ℤ at n l t .i) in
+    let y = sum-same (λ n. coefficient row (from + n) *ℤ lowered (getD q (place + n) 0))
+    (λ n. coefficient row (from + n) *ℤ getD line (place + n) noPair .q) count (λ n l. λ t. coefficient row (from + n) *ℤ at n l t .q) in
+    λ t. record { i = x t; q = y t }

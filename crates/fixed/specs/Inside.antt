@@ -6,7 +6,7 @@ use mathlib.Core.Bool.{Bool, true, cond}
 use mathlib.Core.List.{List, [], _∷_, _++_}
 use lib.Dec.{ltb}
 use lib.ListN.{length, getD, drop}
-use lib.IntN.{ℤ, pos, natAbs, _-ℤ_, _*ℤ_}
+use lib.IntN.{ℤ, pos, natAbs, _+ℤ_, _-ℤ_, _*ℤ_}
 use Rattle.params.specs.Refusal.{nothing}
 use Rattle.params.specs.Banks.{magnitudes, zeroOutside}
 use Rattle.params.specs.Judge.{Sheet, judged}
@@ -21,8 +21,8 @@ use Rattle.state.specs.Start.{ringPlaces, noPair, noPending}
 use Rattle.fixed.specs.declared.filter.Detected.{Detected}
 use Rattle.fixed.specs.declared.filter.Raised.{Raised}
 use Rattle.fixed.specs.declared.filter.Summed.{Summed}
-use Rattle.fixed.specs.Filter.{sumTo}
-use Rattle.fixed.specs.TwoRuns.{together}
+use Rattle.fixed.specs.Filter.{sumTo, sumsOf}
+use Rattle.fixed.specs.TwoRuns.{runSums, together}
 use Rattle.fixed.specs.Sample.{symbolOf, withSymbol, next, madeBy, after, emitted}
 use Rattle.state.specs.Check.{goodState, outline}
 use Rattle.fixed.specs.Block.{pairsOf, flattened, clipsOf}
@@ -37,11 +37,18 @@ lowered u = pos u -ℤ pos 2147483648
 abbrev pub In32 : ℕ → List ℕ → Type 0
 In32 n kept = (m : ℕ) → m < n → getD kept m 0 < 4294967296
 
+-- Both components of the line: arrays of 64, whose first `taps` numbers are below 2^32.
+pub record LineKept (taps : ℕ) (i q : List ℕ) : Type 0 where
+  pub long-i : length i ≡ 64
+  pub long-q : length q ≡ 64
+  pub small-i : In32 taps i
+  pub small-q : In32 taps q
+
 -- The pair at a place, of both components kept apart.
 abbrev pub pairAt : List ℕ → List ℕ → ℕ → Pair
 pairAt i q n = record { i = lowered (getD i n 0); q = lowered (getD q n 0) }
 
--- The line's first `taps` places so.
+-- The line's first `taps` places, kept so.
 pub record Laid (taps : ℕ) (i q : List ℕ) (line : List Pair) : Type 0 where
   pub long-i : length i ≡ 64
   pub long-q : length q ≡ 64
@@ -67,14 +74,14 @@ pub record Row (row : List ℤ) : Type 0 where
   pub short : length row ≤ 64
   pub light : magnitudes row ≤ 131071
 
--- As many numbers of both components of the line.
+-- n numbers of each component of the line, below 2^32.
 pub record Beside (n : ℕ) (i q : List ℕ) : Type 0 where
   pub long-i : length i ≡ n
   pub long-q : length q ≡ n
   pub small-i : In32 n i
   pub small-q : In32 n q
 
--- What the runs go over: rows, of which those of h and g are zero outside the detector's places, and both components of a line as long.
+-- What the runs go over: rows of one length, of which those of h and g are zero outside the detector's places, and the line.
 pub record Filterable (h g k : List ℤ) (i q : List ℕ) : Type 0 where
   pub row-h : Row h
   pub row-g : Row g
@@ -83,10 +90,7 @@ pub record Filterable (h g k : List ℤ) (i q : List ℕ) : Type 0 where
   pub long-g : length g ≡ length k
   pub centred-h : zeroOutside (length h) 0 h ≡ true
   pub centred-g : zeroOutside (length g) 0 g ≡ true
-  pub long-i : length i ≡ 64
-  pub long-q : length q ≡ 64
-  pub small-i : In32 (length k) i
-  pub small-q : In32 (length k) q
+  pub line : LineKept (length k) i q
 
 -- Sums of a row's raised coefficients over raised numbers, without what the raising has added: 2^17 times the numbers' sum and 2^31 times the coefficients'.
 abbrev pub unraised : ℕ → ℕ → ℤ → ℤ
@@ -116,12 +120,26 @@ pub record SummedUpto (n : ℕ) (s : Summed) : Type 0 where
   pub output : RaisedUpto n (s .output)
 
 -- The sums before the first run.
-abbrev pub noneSummed : Summed
-noneSummed =
-    let none : Sums = record { i = pos 0; q = pos 0 } in
-    record { detected = record { h = none; g = none }; output = record { i = 0; q = 0; coefficients = pos 0; «line_i» = 0; «line_q» = 0 } }
+abbrev pub noSums : Sums
+noSums = record { i = pos 0; q = pos 0 }
 
--- A run's part of h and g adds its sums to those before it.
+abbrev pub noneSummed : Summed
+noneSummed = record {
+  detected = record { h = noSums; g = noSums };
+  output = record { i = 0; q = 0; coefficients = pos 0; «line_i» = 0; «line_q» = 0 };
+}
+
+-- The sums of a row of k with one tap more: a coefficient, and the two numbers of the line that it meets.
+abbrev pub oneTapMore : Raised → ℤ → ℕ → ℕ → Raised
+oneTapMore s c x y = record {
+  i = s .i + natAbs (c +ℤ pos 131072) * x;
+  q = s .q + natAbs (c +ℤ pos 131072) * y;
+  coefficients = s .coefficients +ℤ c;
+  «line_i» = s .«line_i» + x;
+  «line_q» = s .«line_q» + y;
+}
+
+-- A run's part of h and g adds its sums to those before it, and no more to their size than its taps can.
 pub record Detects (h g : List ℤ) (i q : List ℕ) (before after : Detected) : Type 0 where
   pub of-h : after .h ≡ together (before .h) (sumsOver h i q)
   pub of-g : after .g ≡ together (before .g) (sumsOver g i q)
@@ -132,19 +150,20 @@ pub record Outputs (k : List ℤ) (i q : List ℕ) (before after : Raised) : Typ
   pub of-k : unraisedSums after ≡ together (unraisedSums before) (sumsOver k i q)
   pub few : (n : ℕ) → RaisedUpto n before → RaisedUpto (n + length k) after
 
--- A run's sums (TwoRuns.antt), over what is kept of the line.
-unfoldable pub runOver : List ℤ → List ℕ → List ℕ → ℕ → ℕ → ℕ → Sums
-runOver row i q from place count = record {
-  i = sumTo (λ n. getD row (from + n) (pos 0) *ℤ lowered (getD i (place + n) 0)) count;
-  q = sumTo (λ n. getD row (from + n) (pos 0) *ℤ lowered (getD q (place + n) 0)) count;
-}
-
--- A run adds the three banks' sums over its own coefficients and places to those before it.
+-- A run over the line (TwoRuns.antt) adds the three banks' sums over its own coefficients and places to those before it, and no more to their size than its
+-- taps can. (A block's run, below, is another thing.)
 pub record RunAdds (h g k : List ℤ) (i q : List ℕ) (from place count : ℕ) (before after : Summed) : Type 0 where
-  pub of-h : after .detected .h ≡ together (before .detected .h) (runOver h i q from place count)
-  pub of-g : after .detected .g ≡ together (before .detected .g) (runOver g i q from place count)
-  pub of-k : unraisedSums (after .output) ≡ together (unraisedSums (before .output)) (runOver k i q from place count)
+  pub of-h : (l : List Pair) → Laid (length k) i q l → after .detected .h ≡ together (before .detected .h) (runSums h l from place count)
+  pub of-g : (l : List Pair) → Laid (length k) i q l → after .detected .g ≡ together (before .detected .g) (runSums g l from place count)
+  pub of-k : (l : List Pair) → Laid (length k) i q l
+      → unraisedSums (after .output) ≡ together (unraisedSums (before .output)) (runSums k l from place count)
   pub few : (n : ℕ) → SummedUpto n before → SummedUpto (n + count) after
+
+-- The filter's sums are the definition's, of every line that is kept so.
+abbrev pub Filters : List ℤ → List ℤ → List ℤ → List ℕ → List ℕ → ℕ → List Sums → Type 0
+Filters h g k i q head sums =
+    (l : List Pair) → Laid (length k) i q l
+    → sums ≡ sumsOf (length k) h l head ∷ sumsOf (length k) g l head ∷ sumsOf (length k) k l head ∷ []
 
 -- ---- the waiting errors
 
@@ -183,14 +202,11 @@ pub record Stands (taps : ℕ) (x : Kept) (f : Frontend) : Type 0 where
   pub waiting : f .waiting ≡ x .position .waiting
   pub samples : f .samples ≡ x .position .samples
 
--- A sheet that is accepted, registers and positions that a block can go on from, and arrays at their sizes, of numbers that can stand there.
+-- A sheet that is accepted, registers and positions that a block can go on from, and the arrays of line and waiting errors.
 pub record Begun (s : Sheet) (x : Kept) : Type 0 where
   pub accepted : judged s ≡ nothing
   pub good : goodState (s .params) (outline (x .registers) (x .position)) ≡ true
-  pub long-i : length (x .i) ≡ 64
-  pub long-q : length (x .q) ≡ 64
-  pub small-i : In32 (s .params .taps) (x .i)
-  pub small-q : In32 (s .params .taps) (x .q)
+  pub line : LineKept (s .params .taps) (x .i) (x .q)
   pub long-e : length (x .e) ≡ ringPlaces
   pub long-err : length (x .err) ≡ ringPlaces
 
@@ -199,14 +215,11 @@ pub record Ready (s : Sheet) (x : Kept) : Type 0 where
   pub begun : Begun s x
   pub room : x .position .samples < 9223372036854775807
 
--- A sheet that is accepted, a position in the line, and both components of the line at their size, of numbers that can stand there.
+-- A sheet that is accepted, a position in the line, and the line.
 pub record Tuned (s : Sheet) (i q : List ℕ) (w : Position) : Type 0 where
   pub accepted : judged s ≡ nothing
   pub head : w .head < s .params .taps
-  pub long-i : length i ≡ 64
-  pub long-q : length q ≡ 64
-  pub small-i : In32 (s .params .taps) i
-  pub small-q : In32 (s .params .taps) q
+  pub line : LineKept (s .params .taps) i q
 
 -- ---- what a sample and a block leave
 
@@ -214,8 +227,7 @@ pub record Tuned (s : Sheet) (i q : List ℕ) (w : Position) : Type 0 where
 pub record GoesOn (s : Sheet) (x y : Kept) : Type 0 where
   pub good : goodState (s .params) (outline (y .registers) (y .position)) ≡ true
   pub samples : y .position .samples ≡ x .position .samples + 1
-  pub small-i : In32 (s .params .taps) (y .i)
-  pub small-q : In32 (s .params .taps) (y .q)
+  pub line : LineKept (s .params .taps) (y .i) (y .q)
 
 -- A symbol: it is that of any state which what was kept stands for, and what is kept then stands for this state after it.
 pub record MakesSymbol (s : Sheet) (x y : Kept) (symbol : Symbol) : Type 0 where
@@ -233,11 +245,9 @@ pub record Pushes (s : Sheet) (x y : Kept) (pair : Pair) (made : Bool) (symbol :
   pub makes : (f : Frontend) → Stands (s .params .taps) x f → madeBy s f pair ≡ cond made (symbol ∷ []) []
   pub state : (f : Frontend) → Stands (s .params .taps) x f → Stands (s .params .taps) y (next s f pair)
 
--- All samples of a block: how many symbols they made, the clips of these, what the output then holds, and the state after them. The line's numbers are still
--- such as can stand there.
+-- All samples of a block: the line, how many symbols they made, the clips of these, what the output then holds, and the state after them.
 pub record Runs (s : Sheet) (x y : Kept) (values out₀ out : List ℤ) (count clips : ℕ) : Type 0 where
-  pub small-i : In32 (s .params .taps) (y .i)
-  pub small-q : In32 (s .params .taps) (y .q)
+  pub line : LineKept (s .params .taps) (y .i) (y .q)
   pub counted : (f : Frontend) → Stands (s .params .taps) x f → count ≡ length (emitted s f (pairsOf values))
   pub clipped : (f : Frontend) → Stands (s .params .taps) x f → clips ≡ clipsOf (emitted s f (pairsOf values))
   pub written : (f : Frontend) → Stands (s .params .taps) x f → out ≡ flattened (emitted s f (pairsOf values)) ++ drop (20 * count) out₀

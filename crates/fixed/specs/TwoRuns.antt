@@ -30,7 +30,7 @@ secondRun taps row line head = runSums row line (taps - head) 0 head
 abbrev pub together : Sums → Sums → Sums
 together a b = record { i = a .i +ℤ b .i; q = a .q +ℤ b .q }
 
--- Any row and any line, accepted or not, and any place that the ring has.
+-- Any line, any row, accepted or not, and any head below `taps`.
 abbrev pub TwoRuns : Type 0
 TwoRuns =
     (taps : ℕ) (row : List ℤ) (line : List Pair) (head : ℕ) → head < taps

@@ -17,14 +17,14 @@ ghost use lib.ListN.{length};
 ghost use Rattle.params.specs.Judge.{sheetOf};
 ghost use Rattle.symbol.specs.Places.{putOf};
 ghost use Rattle.state.specs.Start.{ringPlaces};
-ghost use Rattle.fixed.specs.Inside.{In32, Laid, Packed, Queued, kept, Begun, Runs};
+ghost use Rattle.fixed.specs.Inside.{LineKept, Laid, Packed, Queued, kept, Begun, Runs};
 
 // ---- the state, taken apart and put together
 
 pub(crate) fn unpack_line(line: [Pair; 64], taps: usize, i: &mut [u64], q: &mut [u64])
     requires { ⌜ (taps ≤ 64) × ((length (now i) ≡ 64) × (length (now q) ≡ 64)) ⌝ }
-    ensures line { λ _. ⌜ Laid taps (now (i .exit)) (now (q .exit)) line ⌝ }
-    ensures small { λ _. ⌜ In32 taps (now (i .exit)) × In32 taps (now (q .exit)) ⌝ }
+    ensures laid { λ _. ⌜ Laid taps (now (i .exit)) (now (q .exit)) line ⌝ }
+    ensures kept { λ _. ⌜ LineKept taps (now (i .exit)) (now (q .exit)) ⌝ }
 {
     let mut n: usize = 0;
     while n < taps {
@@ -52,8 +52,7 @@ pub(crate) fn unpack_pending(pending: [Pending; RING_PLACES], e: &mut [i32], err
 
 // The line with its first `taps` places as they now are; the others keep what they held.
 pub(crate) fn pack_line(line: [Pair; 64], taps: usize, i: &[u64], q: &[u64]) -> [Pair; 64]
-    requires { ⌜ (taps ≤ 64) × ((length (now i) ≡ 64) × (length (now q) ≡ 64)) ⌝ }
-    requires { ⌜ In32 taps (now i) × In32 taps (now q) ⌝ }
+    requires { ⌜ (taps ≤ 64) × LineKept taps (now i) (now q) ⌝ }
     ensures { λ r. ⌜ Packed taps (now (i .entry)) (now (q .entry)) line r ⌝ }
 {
     let mut packed = line;

@@ -6,18 +6,15 @@
 //
 // The machine multiplies unsigned numbers two at a time. So the numbers of the line come raised by 2^31, and for the long row, that of k, each coefficient is
 // raised here by 2^17. What that adds to the row's sum, 2^31 times the sum of its coefficients and 2^17 times the sum of the line's numbers, is taken off at
-// the end. The rows of h and g have eight coefficients that count: too few to be worth it.
+// the end. The rows of h and g have at most eight coefficients that count: too few to be worth it.
 use crate::line;
 use symbol::Sums;
 ghost use mathlib.Core.Path.{_≡_};
-ghost use mathlib.Core.List.{List, _∷_, []};
-ghost use Prim.Native.Nat.{_+_, _*_, _≤_, _<_, min, max};
+ghost use Prim.Native.Nat.{_+_, _≤_, _<_, min, max};
 ghost use lib.ListN.{length};
-ghost use lib.IntN.{natAbs, pos, _+ℤ_, _*ℤ_};
-ghost use Rattle.state.specs.declared.Pair.{Pair};
-ghost use Rattle.fixed.specs.Filter.{sumsOf};
-ghost use Rattle.fixed.specs.Inside.{Laid, Row, Beside, Filterable, SumsUpto, DetectedUpto, RaisedUpto, SummedUpto};
-ghost use Rattle.fixed.specs.Inside.{unraisedSums, noneSummed, Detects, Outputs, RunAdds};
+ghost use lib.IntN.{natAbs, _+ℤ_, _*ℤ_};
+ghost use Rattle.fixed.specs.Inside.{Row, Beside, Filterable, SumsUpto, DetectedUpto, RaisedUpto, SummedUpto, oneTapMore, unraisedSums};
+ghost use Rattle.fixed.specs.Inside.{noneSummed, Detects, Outputs, RunAdds, Filters};
 
 // ---- rows of h and g
 
@@ -39,7 +36,7 @@ fn with_products(s: Sums, c: i32, x: i64, y: i64) -> Sums
     }
 }
 
-// They meet the same numbers of the line, so one pass takes both.
+// The two rows meet the same numbers of the line, so one pass takes both.
 fn detector_run(before: Detected, h: &[i32], g: &[i32], i: &[u64], q: &[u64]) -> Detected
     requires { ⌜ Row (now h) × (Row (now g) × (length (now g) ≡ length (now h))) ⌝ }
     requires { ⌜ Beside (length (now h)) (now i) (now q) × DetectedUpto 64 before ⌝ }
@@ -73,13 +70,7 @@ struct Raised {
 fn with_tap(s: Raised, c: i32, x: u64, y: u64) -> Raised
     requires { ⌜ RaisedUpto 128 s ⌝ }
     requires { ⌜ (natAbs c ≤ 131071) × ((x < 4294967296) × (y < 4294967296)) ⌝ }
-    ensures { λ r. ⌜ r ≡ record {
-      i = s .i + natAbs (c +ℤ pos 131072) * x;
-      q = s .q + natAbs (c +ℤ pos 131072) * y;
-      coefficients = s .coefficients +ℤ c;
-      «line_i» = s .«line_i» + x;
-      «line_q» = s .«line_q» + y;
-    } ⌝ }
+    ensures { λ r. ⌜ r ≡ oneTapMore s c x y ⌝ }
 {
     let k = (c + 131072) as u32 as u64;
     Raised {
@@ -105,7 +96,7 @@ fn output_run(before: Raised, k: &[i32], i: &[u64], q: &[u64]) -> Raised
 }
 
 // The row's sums without what the raising has added.
-fn lowered(s: Raised) -> Sums
+fn unraised(s: Raised) -> Sums
     requires { ⌜ RaisedUpto 64 s ⌝ }
     ensures { λ r. ⌜ r ≡ unraisedSums s ⌝ }
 {
@@ -141,7 +132,7 @@ fn nothing_summed() -> Summed
 }
 
 // `at`, held between `from` and `to`.
-fn held(at: usize, from: usize, to: usize) -> usize
+fn clamped(at: usize, from: usize, to: usize) -> usize
     requires { ⌜ from ≤ to ⌝ }
     ensures { λ r. ⌜ r ≡ min (max at from) to ⌝ }
 {
@@ -155,7 +146,7 @@ fn held(at: usize, from: usize, to: usize) -> usize
 }
 
 // One run: `count` coefficients of each row, from number `from` on, over as many places of the line, from `place` on. Outside the detector's places the rows
-// of h and g are zero, so of these two only the run's share of the places is summed.
+// of h and g are zero, so of their coefficients only the run's share of those is summed, from number `begin` up to `end`.
 fn line_run(
     before: Summed,
     h: &[i32],
@@ -173,22 +164,27 @@ fn line_run(
         RunAdds (now (h .entry)) (now (g .entry)) (now (k .entry)) (now (i .entry)) (now (q .entry)) from place count before r ⌝ }
 {
     let to = from + count;
-    let end = place + count;
+    let stop = place + count;
     let d = params::detector_of(k.len());
-    let low = held(d.low, from, to);
-    let high = held(d.high, from, to);
-    let a = place + (low - from);
-    let b = place + (high - from);
+    let begin = clamped(d.low, from, to);
+    let end = clamped(d.high, from, to);
+    let begin_at = place + (begin - from);
+    let end_at = place + (end - from);
     let detected = detector_run(
         before.detected,
-        &h[low..high],
-        &g[low..high],
-        &i[a..b],
-        &q[a..b],
+        &h[begin..end],
+        &g[begin..end],
+        &i[begin_at..end_at],
+        &q[begin_at..end_at],
     );
     Summed {
         detected,
-        output: output_run(before.output, &k[from..to], &i[place..end], &q[place..end]),
+        output: output_run(
+            before.output,
+            &k[from..to],
+            &i[place..stop],
+            &q[place..stop],
+        ),
     }
 }
 
@@ -202,12 +198,7 @@ pub(crate) fn filter(
     head: usize,
 ) -> [Sums; 3]
     requires { ⌜ Filterable (now h) (now g) (now k) (now i) (now q) × (head < length (now k)) ⌝ }
-    ensures { λ r. ⌜
-        ((l : List Pair) → Laid (length (now (k .entry))) (now (i .entry)) (now (q .entry)) l
-        → r ≡ sumsOf (length (now (k .entry))) (now (h .entry)) l head
-        ∷ sumsOf (length (now (k .entry))) (now (g .entry)) l head
-        ∷ sumsOf (length (now (k .entry))) (now (k .entry)) l head
-        ∷ []) ⌝ }
+    ensures { λ r. ⌜ Filters (now (h .entry)) (now (g .entry)) (now (k .entry)) (now (i .entry)) (now (q .entry)) head r ⌝ }
 {
     let cut = k.len() - head;
     let first = line_run(nothing_summed(), h, g, k, i, q, 0, head, cut);
@@ -215,5 +206,5 @@ pub(crate) fn filter(
     let detected = both.detected;
     let a = detected.h;
     let b = detected.g;
-    [a, b, lowered(both.output)]
+    [a, b, unraised(both.output)]
 }

@@ -87,7 +87,7 @@ pub fn are_kinds(kinds: &[u8], places: &[i64]) -> bool
     good
 }
 
-// Whether all places hold numbers of one kind. Its ends are taken once and not place by place, and no number ends the loop: over the 176 places of a state
+// Whether all places hold numbers of this kind. Its ends are taken once and not place by place, and no number ends the loop: over the 176 places of a state
 // that are of one kind the compiler then tests four places a turn.
 pub fn are_all(kind: u8, places: &[i64]) -> bool
     ensures { λ r. ⌜ r ≡ areKinds (replicate (length (now (places .entry))) kind) (now (places .entry)) ⌝ }

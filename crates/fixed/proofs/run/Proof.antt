@@ -145,10 +145,7 @@ run-requires c κs =
       record {
         accepted = f .judged-so;
         good = outline-good (s .args .p) (s .args .f) (c .position .ensures) ∙ f .good;
-        long-i = b .line .long-i;
-        long-q = b .line .long-q;
-        small-i = line-out c .unpack-line .ensures .1 .0;
-        small-q = line-out c .unpack-line .ensures .1 .1;
+        line = line-out c .unpack-line .ensures .1;
         long-e = b .queue .long-e;
         long-err = b .queue .long-err;
       },
@@ -187,8 +184,7 @@ slice-aggregate-pack-line-2 c = search needs
 pack-line-requires : tie.Need-pack-line-requires
 pack-line-requires c κs =
     let r = c .before .before .before .before .before .before .before .before .before in
-    let line = ends r .line in
-    ((ok (start (r .before)) .sheet .lengths .good .most, (line .long-i, line .long-q)), (r .run .ensures .small-i, r .run .ensures .small-q))
+    (ok (start (r .before)) .sheet .lengths .good .most, r .run .ensures .line)
 
 slice-aggregate-pack-pending : tie.Need-slice-aggregate-pack-pending
 slice-aggregate-pack-pending c = search needs

@@ -44,10 +44,10 @@ module _ (t : tie.In-loop Inv-loop μ-loop) where
   start = t .before .before .before .before
 
   at-i : getD (start .args .i .now) (t .before .loop .n) 0 < 4294967296
-  at-i = start .pre .1 .0 (t .before .loop .n) (t .loop-test .taken)
+  at-i = start .pre .1 .small-i (t .before .loop .n) (t .loop-test .taken)
 
   at-q : getD (start .args .q .now) (t .before .loop .n) 0 < 4294967296
-  at-q = start .pre .1 .1 (t .before .loop .n) (t .loop-test .taken)
+  at-q = start .pre .1 .small-q (t .before .loop .n) (t .loop-test .taken)
 
 -- lowered, such a number is one of 32 bits signed
 narrow-fits : (u : ℕ) {z : ℤ} → u < 4294967296 → z ≡ lowered u → SFits w32 (toZ w64 (ofZ w64 z))

@@ -117,8 +117,6 @@ module _ (c : tie.After-push Inv-loop μ-loop) where
   turns : Turn (sheet b) (b .args .values .now) (b .args .out .now) (x₀ b) before behind read (c .push .result .made) (c .push .result .symbol)
   turns = record {
     pushes = c .push .ensures;
-    long-i = c .push .kept .1 .1 .1 .1 .1 .0;
-    long-q = c .push .kept .1 .1 .1 .1 .1 .1 .0;
     long-e = c .push .kept .1 .1 .1 .1 .1 .1 .1 .0;
     long-err = c .push .kept .1 .1 .1 .1 .1 .1 .1 .1 .0;
   }
@@ -162,10 +160,10 @@ same-length : tie.Need-same-length Inv-loop μ-loop
 same-length c = c .before .loop .inv .long
 
 same-length-2 : tie.Need-same-length-2 Inv-loop μ-loop
-same-length-2 c = c .before .loop .inv .begun .long-i ∙ sym (c .before .before .before .before .before .pre .0 .long-i)
+same-length-2 c = c .before .loop .inv .begun .line .long-i ∙ sym (c .before .before .before .before .before .pre .0 .line .long-i)
 
 same-length-3 : tie.Need-same-length-3 Inv-loop μ-loop
-same-length-3 c = c .before .loop .inv .begun .long-q ∙ sym (c .before .before .before .before .before .pre .0 .long-q)
+same-length-3 c = c .before .loop .inv .begun .line .long-q ∙ sym (c .before .before .before .before .before .pre .0 .line .long-q)
 
 same-length-4 : tie.Need-same-length-4 Inv-loop μ-loop
 same-length-4 c = c .before .loop .inv .begun .long-e ∙ sym (c .before .before .before .before .before .pre .0 .long-e)

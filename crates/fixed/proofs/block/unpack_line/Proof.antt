@@ -82,7 +82,12 @@ returns c =
     let l = c .before .loop in
     let laid = l .inv .1 in (
       laying-all (search needs) (omega arith) (laid .0) (laid .1),
-      (λ m h. laid .0 .small m (omega arith), λ m h. laid .1 .small m (omega arith)),
+      record {
+        long-i = laid .0 .long;
+        long-q = laid .1 .long;
+        small-i = λ m h. laid .0 .small m (omega arith);
+        small-q = λ m h. laid .1 .small m (omega arith);
+      },
     )
 
 pub unpack-line-spec : {M : Type 1} → statement M

@@ -12,7 +12,7 @@ use borrow.Author.Needs.{needs}
 use Rattle.arith.proofs.Bits.{back, held}
 use Rattle.fixed.specs.Inside.{lowered, SumsUpto}
 use Rattle.fixed.proofs.Parts.{light-each}
-use Rattle.fixed.proofs.RowSums.{Added, added-none, added-more, added-few, added-all, sums-wider, lowered-small}
+use Rattle.fixed.proofs.RowSums.{Added, added-none, added-more, added-upto, added-all, sums-wider, lowered-small}
 use Rattle.fixed.proofs.filter.detector_run.Statement.{statement}
 use Rattle.fixed.proofs.filter.detector_run.Tie as tie
 
@@ -69,10 +69,10 @@ module _ (b : tie.At-loop Inv-loop μ-loop) where
     at-q = start .pre .1 .0 .small-q (b .loop .n) left
 
     h-so-far : SumsUpto 128 (b .loop .a)
-    h-so-far = sums-wider (omega (arith, few)) (added-few (b .loop .inv .1 .0) 64 (start .pre .1 .1 .h))
+    h-so-far = sums-wider (omega (arith, few)) (added-upto (b .loop .inv .1 .0) 64 (start .pre .1 .1 .h))
 
     g-so-far : SumsUpto 128 (b .loop .b)
-    g-so-far = sums-wider (omega (arith, few)) (added-few (b .loop .inv .1 .1) 64 (start .pre .1 .1 .g))
+    g-so-far = sums-wider (omega (arith, few)) (added-upto (b .loop .inv .1 .1) 64 (start .pre .1 .1 .g))
 
 -- a number of the line, as it is handed on
 handed : (u : ℕ) {z : ℤ} → u < 4294967296 → z ≡ lowered u → toZ w64 (ofZ w64 z) ≡ lowered u
@@ -174,8 +174,8 @@ returns c =
     let in-h = subst (λ (n : ℕ). Added (h b) (i b) (q b) n (a .before .h) (l .a)) e (l .inv .1 .0) in
     let in-g = subst (λ (n : ℕ). Added (g b) (i b) (q b) n (a .before .g) (l .b)) f (l .inv .1 .1) in
     let few-g : (n : ℕ) → SumsUpto n (a .before .g) → SumsUpto (n + length (h b)) (l .b) =
-    λ n u. subst (λ (m : ℕ). SumsUpto (n + m) (l .b)) (as-long b) (added-few in-g n u) in
-    record { of-h = added-all in-h; of-g = added-all in-g; few = λ n u. record { h = added-few in-h n (u .h); g = few-g n (u .g) } }
+    λ n u. subst (λ (m : ℕ). SumsUpto (n + m) (l .b)) (as-long b) (added-upto in-g n u) in
+    record { of-h = added-all in-h; of-g = added-all in-g; few = λ n u. record { h = added-upto in-h n (u .h); g = few-g n (u .g) } }
 
 pub detector-run-spec : {M : Type 1} → statement M
 detector-run-spec =

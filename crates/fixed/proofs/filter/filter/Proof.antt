@@ -1,20 +1,20 @@
 -- `fixed::filter::filter` meets its contract: the first run has the coefficients and places up to the end of the line, the second all others.
 -- What the two add up to are the sums over the line (TwoRuns).
-use Prim.Native.Nat.{ℕ, _+_, _-_, _≤_, _<_}
-use mathlib.Core.Path.{_≡_, refl, sym, ap, subst, _∙_}
+use Prim.Native.Nat.{ℕ, _+_, _-_, _<_}
+use mathlib.Core.Path.{_≡_, sym, ap, subst, _∙_}
 use mathlib.Core.List.{List, [], _∷_}
 use native.Mathlib.Omega.{arith}
 use lib.ListN.{length}
-use lib.IntN.{ℤ, pos, +ℤ-idl}
+use lib.IntN.{ℤ, +ℤ-idl}
 use borrow.Author.Needs.{needs}
 use Rattle.symbol.specs.declared.Sums.{Sums}
 use Rattle.state.specs.declared.Pair.{Pair}
 use Rattle.fixed.specs.declared.filter.Summed.{Summed}
 use Rattle.fixed.specs.Filter.{sumsOf}
-use Rattle.fixed.specs.TwoRuns.{together}
-use Rattle.fixed.specs.Inside.{Laid, runOver, SummedUpto, noneSummed, unraisedSums}
+use Rattle.fixed.specs.TwoRuns.{firstRun, secondRun, together}
+use Rattle.fixed.specs.Inside.{SummedUpto, noSums, noneSummed, unraisedSums}
 use Rattle.fixed.proofs.RowSums.{summed-wider}
-use Rattle.fixed.proofs.TwoRuns.{runs-are}
+use Rattle.fixed.proofs.TwoRuns.{two-runs}
 use Rattle.fixed.proofs.filter.filter.Statement.{statement}
 use Rattle.fixed.proofs.filter.filter.Tie as tie
 
@@ -41,19 +41,14 @@ module _ (c : tie.After-line-run) where
 
 -- ---- a row's sums over both runs
 
-module _ (row : List ℤ) (i q : List ℕ) (taps head : ℕ) (newest : head < taps) where
-  abbrev one : Sums
-  one = runOver row i q 0 head (taps - head)
-
-  abbrev two : Sums
-  two = runOver row i q (taps - head) 0 head
-
+module _ (row : List ℤ) (taps head : ℕ) (newest : head < taps) where
   -- what the first run leaves on top of nothing, the second adds to
-  total : (first both : Sums) → first ≡ together (record { i = pos 0; q = pos 0 }) one → both ≡ together first two
-      → (l : List Pair) → Laid taps i q l → both ≡ sumsOf taps row l head
-  total first both a b l laid =
-      let alone : together (record { i = pos 0; q = pos 0 }) one ≡ one = λ t. record { i = +ℤ-idl (one .i) t; q = +ℤ-idl (one .q) t } in
-      b ∙ ap (λ (s : Sums). together s two) (a ∙ alone) ∙ runs-are taps row i q l laid head newest
+  total : (first both : Sums) (l : List Pair) → first ≡ together noSums (firstRun taps row l head) → both ≡ together first (secondRun taps row l head)
+      → both ≡ sumsOf taps row l head
+  total first both l a b =
+      let one : Sums = firstRun taps row l head in
+      let alone : together noSums one ≡ one = λ t. record { i = +ℤ-idl (one .i) t; q = +ℤ-idl (one .q) t } in
+      b ∙ ap (λ (s : Sums). together s (secondRun taps row l head)) (a ∙ alone) ∙ two-runs taps row l head newest
 
 sub-cut : tie.Need-sub-cut
 sub-cut c = search needs
@@ -71,12 +66,13 @@ line-run-requires-2 c κs =
     let s = start c in
     ((s .pre .0, summed-wider (omega (arith, s .pre .0 .row-k .short)) (first-few c)), (omega (arith, s .pre .1), omega (arith, s .pre .1)))
 
-lowered-requires : tie.Need-lowered-requires
-lowered-requires c κs =
+unraised-requires : tie.Need-unraised-requires
+unraised-requires c κs =
     let r = c .before .before .before in
     let s = start (r .before) in
     let both : SummedUpto 64 (r .line-run2 .result) =
-    summed-wider (omega (arith, s .pre .0 .row-k .short, s .pre .1)) (r .line-run2 .ensures .few (0 + (taps (r .before) - head (r .before))) (first-few (r .before))) in
+    summed-wider (omega (arith, s .pre .0 .row-k .short, s .pre .1))
+    (r .line-run2 .ensures .few (0 + (taps (r .before) - head (r .before))) (first-few (r .before))) in
     both .output
 
 returns : tie.Need-returns
@@ -86,17 +82,17 @@ returns c =
     let s = start f in
     let a = s .args in
     let bare = f .before .nothing-summed .ensures in
-    let in-first = f .line-run .ensures in
-    let in-both = r .line-run2 .ensures in
-    let first-of : List ℤ → Sums = λ row. one row (a .i .now) (a .q .now) (taps f) (head f) (s .pre .1) in
-    let h = total (a .h .now) (a .i .now) (a .q .now) (taps f) (head f) (s .pre .1) (f .line-run .result .detected .h) (r .line-run2 .result .detected .h)
-    (in-first .of-h ∙ ap (λ (z : Summed). together (z .detected .h) (first-of (a .h .now))) bare) (in-both .of-h) in
-    let g = total (a .g .now) (a .i .now) (a .q .now) (taps f) (head f) (s .pre .1) (f .line-run .result .detected .g) (r .line-run2 .result .detected .g)
-    (in-first .of-g ∙ ap (λ (z : Summed). together (z .detected .g) (first-of (a .g .now))) bare) (in-both .of-g) in
-    let k = total (a .k .now) (a .i .now) (a .q .now) (taps f) (head f) (s .pre .1) (unraisedSums (f .line-run .result .output))
-    (unraisedSums (r .line-run2 .result .output))
-    (in-first .of-k ∙ ap (λ (z : Summed). together (unraisedSums (z .output)) (first-of (a .k .now))) bare) (in-both .of-k) in
-    λ l laid. λ t. h l laid t ∷ g l laid t ∷ (c .lowered .ensures ∙ k l laid) t ∷ []
+    let one = f .line-run .ensures in
+    let two = r .line-run2 .ensures in
+    λ l laid.
+    let first-of : List ℤ → Sums = λ row. firstRun (taps f) row l (head f) in
+    let h = total (a .h .now) (taps f) (head f) (s .pre .1) (f .line-run .result .detected .h) (r .line-run2 .result .detected .h) l
+    (one .of-h l laid ∙ ap (λ (z : Summed). together (z .detected .h) (first-of (a .h .now))) bare) (two .of-h l laid) in
+    let g = total (a .g .now) (taps f) (head f) (s .pre .1) (f .line-run .result .detected .g) (r .line-run2 .result .detected .g) l
+    (one .of-g l laid ∙ ap (λ (z : Summed). together (z .detected .g) (first-of (a .g .now))) bare) (two .of-g l laid) in
+    let k = total (a .k .now) (taps f) (head f) (s .pre .1) (unraisedSums (f .line-run .result .output)) (unraisedSums (r .line-run2 .result .output)) l
+    (one .of-k l laid ∙ ap (λ (z : Summed). together (unraisedSums (z .output)) (first-of (a .k .now))) bare) (two .of-k l laid) in
+    λ t. h t ∷ g t ∷ (c .unraised .ensures ∙ k) t ∷ []
 
 pub filter-spec : {M : Type 1} → statement M
 filter-spec =
@@ -106,5 +102,5 @@ filter-spec =
     nothing-summed-requires
     line-run-requires
     line-run-requires-2
-    lowered-requires
+    unraised-requires
     returns)

@@ -1,6 +1,6 @@
 -- `fixed::filter::line_run` meets its contract: the parts that it hands on are the run's own coefficients and places, or the detector's share of them.
 -- A part's sums are the run's (TwoRuns), and what h and g have outside their share adds nothing (Centre).
-use Prim.Native.Nat.{ℕ, _+_, _-_, _*_, _/_, _≤_, _<_, min, max}
+use Prim.Native.Nat.{ℕ, _+_, _-_, _/_, _≤_, min, max}
 use mathlib.Core.Path.{_≡_, refl, sym, ap, subst, _∙_}
 use mathlib.Core.Bool.{true}
 use mathlib.Core.List.{List}
@@ -11,18 +11,19 @@ use lib.IntN.{ℤ}
 use borrow.Author.Needs.{needs}
 use Rattle.params.specs.Banks.{zeroOutside}
 use Rattle.symbol.specs.declared.Sums.{Sums}
-use Rattle.fixed.specs.TwoRuns.{together}
-use Rattle.fixed.specs.Inside.{sumsOver, runOver, Beside, Filterable, SumsUpto, unraisedSums}
+use Rattle.state.specs.declared.Pair.{Pair}
+use Rattle.fixed.specs.TwoRuns.{runSums, together}
+use Rattle.fixed.specs.Inside.{Laid, sumsOver, Beside, Filterable, SumsUpto, unraisedSums}
 use Rattle.fixed.proofs.Parts.{row-take, row-drop, beside-part}
 use Rattle.fixed.proofs.Centre.{low, wide, Share, share-is, share-sums}
-use Rattle.fixed.proofs.RowSums.{sums-wider, raised-wider}
-use Rattle.fixed.proofs.TwoRuns.{part-sums}
+use Rattle.fixed.proofs.RowSums.{runOver, sums-wider, raised-wider}
+use Rattle.fixed.proofs.TwoRuns.{part-sums, run-laid}
 use Rattle.fixed.proofs.filter.line_run.Statement.{statement}
 use Rattle.fixed.proofs.filter.line_run.Tie as tie
 
 -- ---- the run and its share of the detector's places
 
-module _ (c : tie.After-held2) where
+module _ (c : tie.After-clamped2) where
   abbrev start : tie.Start
   start = c .before .before .before .before .before
 
@@ -64,10 +65,10 @@ module _ (c : tie.After-held2) where
 
   -- Where the share begins, and where it ends.
   abbrev begin : ℕ
-  begin = c .before .held .result
+  begin = c .before .clamped .result
 
   abbrev end : ℕ
-  end = c .held2 .result
+  end = c .clamped2 .result
 
   share : (row : List ℤ) → length row ≡ length k → Share (low row) (low row + wide row) from (from + count) begin end
   share row e =
@@ -75,9 +76,9 @@ module _ (c : tie.After-held2) where
       let at-low : c .before .before .detector-of .result .low ≡ low row = d .0 ∙ ap (λ (n : ℕ). (n - 8) / 2) (sym e) in
       let at-high : c .before .before .detector-of .result .high ≡ low row + wide row = d .1 ∙ (λ t. at-low t + min 8 (sym e t)) in
       let begins : min (max (low row) from) (from + count) ≡ begin =
-      sym (c .before .held .ensures ∙ ap (λ (n : ℕ). min (max n from) (from + count)) at-low) in
+      sym (c .before .clamped .ensures ∙ ap (λ (n : ℕ). min (max n from) (from + count)) at-low) in
       let ends : min (max (low row + wide row) from) (from + count) ≡ end =
-      sym (c .held2 .ensures ∙ ap (λ (n : ℕ). min (max n from) (from + count)) at-high) in
+      sym (c .clamped2 .ensures ∙ ap (λ (n : ℕ). min (max n from) (from + count)) at-high) in
       subst (λ (n : ℕ). Share (low row) (low row + wide row) from (from + count) n end) begins
       (subst (λ (n : ℕ). Share (low row) (low row + wide row) from (from + count) (min (max (low row) from) (from + count)) n) ends
       (share-is (low row) (low row + wide row) from (from + count) (omega arith) (omega arith)))
@@ -109,12 +110,16 @@ module _ (c : tie.After-held2) where
 
   share-beside : Beside (end - begin) (take (end - begin) (drop (place + (begin - from)) i)) (take (end - begin) (drop (place + (begin - from)) q))
   share-beside =
-      beside-part (place + (begin - from)) (end - begin) (length k) i q (omega (arith, starts, ordered, stops, in-line)) (omega (arith, short, lent .long-i))
-      (omega (arith, short, lent .long-q)) (lent .small-i) (lent .small-q)
+      beside-part (place + (begin - from)) (end - begin) (length k) i q (omega (arith, starts, ordered, stops, in-line)) (omega (arith, short, lent .line .long-i))
+      (omega (arith, short, lent .line .long-q)) (lent .line .small-i) (lent .line .small-q)
 
   run-beside : Beside count (take count (drop place i)) (take count (drop place q))
   run-beside =
-      beside-part place count (length k) i q in-line (omega (arith, short, lent .long-i)) (omega (arith, short, lent .long-q)) (lent .small-i) (lent .small-q)
+      beside-part place count (length k) i q in-line (omega (arith, short, lent .line .long-i)) (omega (arith, short, lent .line .long-q)) (lent .line .small-i) (lent .line .small-q)
+
+  -- a run over what is kept is one over any line that it stands for
+  over-line : (row : List ℤ) (l : List Pair) → Laid (length k) i q l → runOver row i q from place count ≡ runSums row l from place count
+  over-line row l laid = run-laid (length k) row i q l laid from place count in-line
 
   share-is-run : (row : List ℤ) → length row ≡ length k → zeroOutside (length row) 0 row ≡ true
       → sumsOver (take (end - begin) (drop begin row)) (take (end - begin) (drop (place + (begin - from)) i))
@@ -133,29 +138,29 @@ module _ (c : tie.After-held2) where
 add-to : tie.Need-add-to
 add-to c = search needs
 
-add-end : tie.Need-add-end
-add-end c = search needs
+add-stop : tie.Need-add-stop
+add-stop c = search needs
 
 detector-of-requires : tie.Need-detector-of-requires
 detector-of-requires c κs = search needs
 
-held-requires : tie.Need-held-requires
-held-requires c κs = search needs
+clamped-requires : tie.Need-clamped-requires
+clamped-requires c κs = search needs
 
-held-requires-2 : tie.Need-held-requires-2
-held-requires-2 c κs = search needs
+clamped-requires-2 : tie.Need-clamped-requires-2
+clamped-requires-2 c κs = search needs
 
-sub-a : tie.Need-sub-a
-sub-a c = search needs
+sub-begin-at : tie.Need-sub-begin-at
+sub-begin-at c = search needs
 
-add-a : tie.Need-add-a
-add-a c = record { fits = omega (arith, short c, in-row c, in-line c, starts c, stops c, ordered c) }
+add-begin-at : tie.Need-add-begin-at
+add-begin-at c = record { fits = omega (arith, short c, in-row c, in-line c, starts c, stops c, ordered c) }
 
-sub-b : tie.Need-sub-b
-sub-b c = search needs
+sub-end-at : tie.Need-sub-end-at
+sub-end-at c = search needs
 
-add-b : tie.Need-add-b
-add-b c = record { fits = omega (arith, short c, in-row c, in-line c, starts c, stops c, ordered c) }
+add-end-at : tie.Need-add-end-at
+add-end-at c = record { fits = omega (arith, short c, in-row c, in-line c, starts c, stops c, ordered c) }
 
 mul-detector-run : tie.Need-mul-detector-run
 mul-detector-run c = search needs
@@ -191,7 +196,7 @@ part-detector-run-start-3 : tie.Need-part-detector-run-start-3
 part-detector-run-start-3 c = let b = c .before .before in omega (arith, ordered b)
 
 part-detector-run-end-3 : tie.Need-part-detector-run-end-3
-part-detector-run-end-3 c = let b = c .before .before in omega (arith, starts b, stops b, in-line b, short b, lent b .long-i)
+part-detector-run-end-3 c = let b = c .before .before in omega (arith, starts b, stops b, in-line b, short b, lent b .line .long-i)
 
 mul-detector-run-4 : tie.Need-mul-detector-run-4
 mul-detector-run-4 c = let b = c .before .before .before in record { fits = omega (arith, short b, in-row b, in-line b, starts b, stops b, ordered b) }
@@ -203,7 +208,7 @@ part-detector-run-start-4 : tie.Need-part-detector-run-start-4
 part-detector-run-start-4 c = let b = c .before .before .before in omega (arith, ordered b)
 
 part-detector-run-end-4 : tie.Need-part-detector-run-end-4
-part-detector-run-end-4 c = let b = c .before .before .before in omega (arith, starts b, stops b, in-line b, short b, lent b .long-q)
+part-detector-run-end-4 c = let b = c .before .before .before in omega (arith, starts b, stops b, in-line b, short b, lent b .line .long-q)
 
 detector-run-requires : tie.Need-detector-run-requires
 detector-run-requires c κs =
@@ -238,7 +243,7 @@ part-output-run-start-2 : tie.Need-part-output-run-start-2
 part-output-run-start-2 c = search needs
 
 part-output-run-end-2 : tie.Need-part-output-run-end-2
-part-output-run-end-2 c = let b = c .before .before .before .before .before .before in omega (arith, in-line b, short b, lent b .long-i)
+part-output-run-end-2 c = let b = c .before .before .before .before .before .before in omega (arith, in-line b, short b, lent b .line .long-i)
 
 mul-output-run-3 : tie.Need-mul-output-run-3
 mul-output-run-3 c = search needs
@@ -250,7 +255,7 @@ part-output-run-start-3 : tie.Need-part-output-run-start-3
 part-output-run-start-3 c = search needs
 
 part-output-run-end-3 : tie.Need-part-output-run-end-3
-part-output-run-end-3 c = let b = c .before .before .before .before .before .before .before in omega (arith, in-line b, short b, lent b .long-q)
+part-output-run-end-3 c = let b = c .before .before .before .before .before .before .before in omega (arith, in-line b, short b, lent b .line .long-q)
 
 output-run-requires : tie.Need-output-run-requires
 output-run-requires c κs =
@@ -270,9 +275,12 @@ returns c =
     let in-g = rw (as-many b) at (d .of-g) in
     let in-k = rw (all-to b, all-end b) at (o .of-k) in
     record {
-      of-h = in-h ∙ ap (together (before .detected .h)) (share-is-run b (h b) (lent b .long-h) (lent b .centred-h));
-      of-g = in-g ∙ ap (together (before .detected .g)) (share-is-run b (g b) (lent b .long-g) (lent b .centred-g));
-      of-k = in-k ∙ ap (together (unraisedSums (before .output))) (part-sums (k b) (i b) (q b) (from b) (place b) (count b) (in-row b));
+      of-h = λ l laid. in-h ∙ ap (together (before .detected .h)) (share-is-run b (h b) (lent b .long-h) (lent b .centred-h) ∙ over-line b (h b) l laid);
+      of-g = λ l laid. in-g ∙ ap (together (before .detected .g)) (share-is-run b (g b) (lent b .long-g) (lent b .centred-g) ∙ over-line b (g b) l laid);
+      of-k = λ l laid.
+          in-k
+          ∙ ap (together (unraisedSums (before .output)))
+          (part-sums (k b) (i b) (q b) (from b) (place b) (count b) (in-row b) ∙ over-line b (k b) l laid);
       few = λ m u.
           let few = d .few m (u .detected) in
           record {
@@ -286,14 +294,14 @@ line-run-spec =
     tie.close
     (tie.spec
     add-to
-    add-end
+    add-stop
     detector-of-requires
-    held-requires
-    held-requires-2
-    sub-a
-    add-a
-    sub-b
-    add-b
+    clamped-requires
+    clamped-requires-2
+    sub-begin-at
+    add-begin-at
+    sub-end-at
+    add-end-at
     mul-detector-run
     sub-detector-run
     part-detector-run-start

@@ -1,6 +1,6 @@
--- `fixed::filter::output_run` meets its contract: after n taps the sums are those of n taps on top of what came before (RowSums), and no larger than n taps more
--- can make them. At the end n is all of the row.
-use Prim.Native.Nat.{ℕ, _+_, _-_, _≤_, _<_}
+-- `fixed::filter::output_run` meets its contract: after n taps the sums are those of n taps on top of what came before (RowSums), and no larger than n taps
+-- more can make them. At the end n is all of the row.
+use Prim.Native.Nat.{ℕ, _-_, _≤_, _<_}
 use mathlib.Core.Path.{_≡_, subst}
 use mathlib.Core.List.{List}
 use native.Mathlib.Omega.{arith}
@@ -12,7 +12,7 @@ use borrow.Author.Needs.{needs}
 use Rattle.arith.proofs.Bits.{held}
 use Rattle.fixed.specs.Inside.{RaisedUpto}
 use Rattle.fixed.proofs.Parts.{light-each}
-use Rattle.fixed.proofs.RowSums.{Taken, taken-none, taken-more, taken-few, taken-all, raised-wider}
+use Rattle.fixed.proofs.RowSums.{Taken, taken-none, taken-more, taken-upto, taken-all, raised-wider}
 use Rattle.fixed.proofs.filter.output_run.Statement.{statement}
 use Rattle.fixed.proofs.filter.output_run.Tie as tie
 
@@ -49,7 +49,7 @@ module _ (b : tie.At-loop Inv-loop μ-loop) where
     at-q = start .pre .1 .0 .small-q (b .loop .n) left
 
     so-far : RaisedUpto 128 (b .loop .s)
-    so-far = raised-wider (omega (arith, few)) (taken-few (b .loop .inv .1) 64 (start .pre .1 .1))
+    so-far = raised-wider (omega (arith, few)) (taken-upto (b .loop .inv .1) 64 (start .pre .1 .1))
 
 mul-with-tap : tie.Need-mul-with-tap Inv-loop μ-loop
 mul-with-tap c = search needs
@@ -99,7 +99,7 @@ returns c =
     let l = b .loop in
     let e : l .n ≡ length (row b) = omega (arith, l .inv .0, c .loop-test .left) in
     let all = subst (λ (n : ℕ). Taken (row b) (a .i .now) (a .q .now) n (a .before) (l .s)) e (l .inv .1) in
-    record { of-k = taken-all all; few = taken-few all }
+    record { of-k = taken-all all; few = taken-upto all }
 
 pub output-run-spec : {M : Type 1} → statement M
 output-run-spec =

@@ -4,28 +4,19 @@ use Prim.Native.Nat.{ℕ, _+_, _*_, _%_, _^_, _≤_, _<_}
 use mathlib.Core.Path.{_≡_, ap}
 use native.Mathlib.Nat.{mul-le-mul, mod-eq-of-lt}
 use native.Mathlib.Omega.{arith}
-use lib.Dec.{T}
 use lib.IntN.{ℤ, pos, natAbs, _+ℤ_}
-use lib.Signed.{nonNeg}
 use mir.Syntax.{w32, w64}
 use mir.Val.{Fits, SFits, toZ, ofZ}
 use mir.Facts.{toZ-ofZ, fits-widen}
 use borrow.Author.Needs.{needs}
 use Rattle.arith.proofs.Magnitude.{abs-add}
-use Rattle.arith.proofs.Order.{abs-pn, add-pn, unsign}
 use Rattle.arith.proofs.Bits.{sfit, back}
+use Rattle.fixed.proofs.RowSums.{raised-small, raised-whole}
 use Rattle.fixed.proofs.filter.with_tap.Statement.{statement}
 use Rattle.fixed.proofs.filter.with_tap.Tie as tie
 
--- ---- the coefficient, raised
+-- ---- the coefficient, raised, as the code computes it
 
-raised-small : (c : ℤ) → natAbs c ≤ 131071 → natAbs (c +ℤ pos 131072) ≤ 262143
-raised-small c h = omega (arith, abs-add c (pos 131072))
-
-raised-whole : (c : ℤ) → natAbs c ≤ 131071 → T (nonNeg (c +ℤ pos 131072)) × Fits w32 (natAbs (c +ℤ pos 131072))
-raised-whole c h = unsign w32 (c +ℤ pos 131072) (omega (arith, add-pn c (pos 131072), abs-pn c)) (omega (arith, add-pn c (pos 131072), abs-pn c))
-
--- as the code computes it
 module _ (c : ℤ) (h : natAbs c ≤ 131071) where
   sum-is : toZ w32 (ofZ w32 c) +ℤ pos 131072 ≡ c +ℤ pos 131072
   sum-is = rw (back w32 c (omega arith))

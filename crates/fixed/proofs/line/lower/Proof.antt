@@ -1,10 +1,7 @@
 -- `fixed::line::lower` meets its contract: a number below 2^32 is the same as 64 bits signed, and less 2^31 it is one of 32 bits signed.
 -- So neither the cast nor the difference loses anything.
-use Prim.Native.Nat.{ℕ, _<_}
-use mathlib.Core.Path.{_≡_}
-use native.Mathlib.Omega.{arith}
 use mir.Syntax.{w32, w64}
-use mir.Val.{SFits, toZ}
+use mir.Val.{SFits}
 use mir.Facts.{toZ-ofZ, sfits-widen}
 use borrow.Author.Needs.{needs}
 use Rattle.arith.proofs.Bits.{whole}

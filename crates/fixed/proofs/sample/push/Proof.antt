@@ -3,7 +3,6 @@
 use Prim.Native.Nat.{ℕ, _<_}
 use mathlib.Core.Path.{_≡_, sym, ap, subst, _∙_}
 use mathlib.Core.Bool.{Bool, true, false, true≢false}
-use mathlib.Core.List.{List}
 use native.Mathlib.Omega.{arith}
 use lib.ListN.{set}
 use lib.IntN.{ℤ}
@@ -68,13 +67,15 @@ raise-requires c κs = search needs
 
 -- the sample's place lies within the line, and the line within its arrays
 inside : (c : tie.After-next-head) → c .next-head .result < 64
-inside c = let fits = head-fits (c .before .before .before .before .before .pre .1) in subst (λ (n : ℕ). n < 64) (sym (c .next-head .ensures)) (omega (arith, fits .0, fits .1))
+inside c =
+    let fits = head-fits (c .before .before .before .before .before .pre .1) in
+    subst (λ (n : ℕ). n < 64) (sym (c .next-head .ensures)) (omega (arith, fits .0, fits .1))
 
 mul-i : tie.Need-mul-i
 mul-i c = record { fits = omega (arith, inside (c .before .before)) }
 
 slice-write-i : tie.Need-slice-write-i
-slice-write-i c = let h = c .before .before in omega (arith, inside h, h .before .before .before .before .before .pre .1 .begun .long-i)
+slice-write-i c = let h = c .before .before in omega (arith, inside h, h .before .before .before .before .before .pre .1 .begun .line .long-i)
 
 raise-requires-2 : tie.Need-raise-requires-2
 raise-requires-2 c κs = search needs
@@ -83,7 +84,7 @@ mul-q : tie.Need-mul-q
 mul-q c = record { fits = omega (arith, inside (c .before .before .before .before)) }
 
 slice-write-q : tie.Need-slice-write-q
-slice-write-q c = let h = c .before .before .before .before in omega (arith, inside h, h .before .before .before .before .before .pre .1 .begun .long-q)
+slice-write-q c = let h = c .before .before .before .before in omega (arith, inside h, h .before .before .before .before .before .pre .1 .begun .line .long-q)
 
 next-nco-requires : tie.Need-next-nco-requires
 next-nco-requires c κs = search needs
@@ -197,7 +198,7 @@ returns c =
     kept (y d .i) (y d .q) (w .with-symbol .last .1 .1 .1 .1 .1 .1 .0) (w .with-symbol .last .1 .1 .1 .1 .1 .1 .1 .0) (w .with-symbol .result .registers)
     (w .with-symbol .result .position) in
     record {
-      on = record { good = makes .on .good; samples = makes .on .samples; small-i = makes .on .small-i; small-q = makes .on .small-q };
+      on = record { good = makes .on .good; samples = makes .on .samples; line = makes .on .line };
       sample = λ m. makes .sample;
       few-clips = λ m. makes .few-clips;
       makes = λ f stands.
@@ -231,7 +232,7 @@ returns-2 c =
     let kept-so : keptWithout (y d) ≡ z = λ t. kept (y d .i) (y d .q) (y d .e) (y d .err) (sym (e .0) t) (sym (e .1 .0) t) in
     let on = subst (GoesOn (sheet (b d)) (y d)) kept-so (without-symbol-on (ready-now d) test) in
     record {
-      on = record { good = on .good; samples = on .samples; small-i = on .small-i; small-q = on .small-q };
+      on = record { good = on .good; samples = on .samples; line = on .line };
       sample = λ made. absurd (true≢false (sym made ∙ e .1 .1));
       few-clips = λ made. absurd (true≢false (sym made ∙ e .1 .1));
       makes = λ f stands. made-without (sheet (b d)) f (pair (b d)) (out .made) (out .symbol) (falls-is d f false stands test) (e .1 .1);

@@ -1,7 +1,7 @@
 -- `fixed::sample::sums_at` meets its contract: the parts of the banks that go to the filter are the phase's rows of an accepted sheet, as the filter takes
 -- them (PhaseRows). What it answers are the definition's sums of these rows.
 use Prim.Native.Nat.{ℕ, _+_, _*_, _≤_}
-use mathlib.Core.Path.{_≡_, sym, ap, _∙_}
+use mathlib.Core.Path.{_≡_, sym, _∙_}
 use mathlib.Core.List.{List, [], _∷_}
 use native.Mathlib.Omega.{arith}
 use lib.ListN.{length}
@@ -14,7 +14,7 @@ use Rattle.params.proofs.RowsOf.{row-inside}
 use Rattle.state.specs.declared.Pair.{Pair}
 use Rattle.symbol.specs.declared.Sums.{Sums}
 use Rattle.fixed.specs.Filter.{sumsOf, filtered}
-use Rattle.fixed.specs.Inside.{Laid, Filterable}
+use Rattle.fixed.specs.Inside.{Filterable}
 use Rattle.fixed.proofs.PhaseRows.{part, part-is, part-long, part-row, part-centred}
 use Rattle.fixed.proofs.sample.sums_at.Statement.{statement}
 use Rattle.fixed.proofs.sample.sums_at.Tie as tie
@@ -69,10 +69,7 @@ module _ (s : tie.Start) where
         long-g = row-long g (l .long-g) ∙ sym k-long;
         centred-h = part-centred taps phase (s .pre .1) h (l .long-h) (b .outside-h);
         centred-g = part-centred taps phase (s .pre .1) g (l .long-g) (b .outside-g);
-        long-i = s .pre .0 .long-i;
-        long-q = s .pre .0 .long-q;
-        small-i = rw k-long (s .pre .0 .small-i);
-        small-q = rw k-long (s .pre .0 .small-q);
+        line = rw k-long (s .pre .0 .line);
       }
 
   -- a row's sums are those of the definition's row

@@ -104,10 +104,7 @@ sums-at-requires c κs =
       record {
         accepted = b .pre .0 .begun .accepted;
         head = going-at b .head;
-        long-i = b .pre .0 .begun .long-i;
-        long-q = b .pre .0 .begun .long-q;
-        small-i = b .pre .0 .begun .small-i;
-        small-q = b .pre .0 .begun .small-q;
+        line = b .pre .0 .begun .line;
       },
       subst (λ (n : ℕ). n < 64) (sym (phase-at b)) (omega (arith, soon b)),
     )

@@ -1,4 +1,4 @@
--- `fixed::filter::lowered` meets its contract: the sums of 64 taps at most stay within 2^56, and so does what is taken off them.
+-- `fixed::filter::unraised` meets its contract: the sums of 64 taps at most stay within 2^56, and so does what is taken off them.
 -- So every number fits 64 bits signed, and the code computes what it says.
 use Prim.Native.Nat.{ℕ, _*_, _^_, _≤_, _<_}
 use mathlib.Core.Path.{_≡_}
@@ -10,8 +10,8 @@ use mir.Facts.{toZ-ofZ, toZ-pos}
 use borrow.Author.Needs.{needs}
 use Rattle.arith.proofs.Magnitude.{abs-minus, abs-mul}
 use Rattle.arith.proofs.Bits.{sfit, back}
-use Rattle.fixed.proofs.filter.lowered.Statement.{statement}
-use Rattle.fixed.proofs.filter.lowered.Tie as tie
+use Rattle.fixed.proofs.filter.unraised.Statement.{statement}
+use Rattle.fixed.proofs.filter.unraised.Tie as tie
 
 -- ---- what the code computes at the end
 
@@ -28,32 +28,32 @@ raised-is : (c : ℤ) → natAbs c ≤ 64 * 2 ^ 17 → toZ w64 (ofZ w64 (toZ w64
 raised-is c h = rw (coefficients-is c h) (back w64 (c *ℤ pos 2147483648) (omega (arith, raised-small c h)))
 
 module _ (u v : ℕ) (hu : u ≤ 64 * 2 ^ 50) (hv : v ≤ 64 * 2 ^ 32) where
-  abbrev level : ℤ
-  level = pos u -ℤ pos v *ℤ pos 131072
+  abbrev lifted : ℤ
+  lifted = pos u -ℤ pos v *ℤ pos 131072
 
-  level-is : toZ w64 u -ℤ toZ w64 (v * 131072) ≡ level
-  level-is = rw (unsigned-is u (omega arith), unsigned-is (v * 131072) (omega arith))
+  lifted-is : toZ w64 u -ℤ toZ w64 (v * 131072) ≡ lifted
+  lifted-is = rw (unsigned-is u (omega arith), unsigned-is (v * 131072) (omega arith))
 
-  level-small : natAbs level ≤ 2 ^ 58
-  level-small = omega (arith, abs-minus (pos u) (pos (v * 131072)))
+  lifted-small : natAbs lifted ≤ 2 ^ 58
+  lifted-small = omega (arith, abs-minus (pos u) (pos (v * 131072)))
 
-  level-back : toZ w64 (ofZ w64 (toZ w64 u -ℤ toZ w64 (v * 131072))) ≡ level
-  level-back = rw level-is (back w64 level (omega (arith, level-small)))
+  lifted-back : toZ w64 (ofZ w64 (toZ w64 u -ℤ toZ w64 (v * 131072))) ≡ lifted
+  lifted-back = rw lifted-is (back w64 lifted (omega (arith, lifted-small)))
 
-  level-fits : SFits w64 (toZ w64 u -ℤ toZ w64 (v * 131072))
-  level-fits = rw level-is (sfit {z = level} (omega (arith, level-small)))
+  lifted-fits : SFits w64 (toZ w64 u -ℤ toZ w64 (v * 131072))
+  lifted-fits = rw lifted-is (sfit {z = lifted} (omega (arith, lifted-small)))
 
-  rest-fits : (c : ℤ) → natAbs c ≤ 64 * 2 ^ 17 → SFits w64 (level -ℤ c *ℤ pos 2147483648)
-  rest-fits c h = sfit {z = level -ℤ c *ℤ pos 2147483648} (omega (arith, abs-minus level (c *ℤ pos 2147483648), level-small, raised-small c h))
+  rest-fits : (c : ℤ) → natAbs c ≤ 64 * 2 ^ 17 → SFits w64 (lifted -ℤ c *ℤ pos 2147483648)
+  rest-fits c h = sfit {z = lifted -ℤ c *ℤ pos 2147483648} (omega (arith, abs-minus lifted (c *ℤ pos 2147483648), lifted-small, raised-small c h))
 
   rest-is : (c : ℤ) → natAbs c ≤ 64 * 2 ^ 17
       → toZ w64 (ofZ w64 (toZ w64 u -ℤ toZ w64 (v * 131072))) -ℤ toZ w64
-      (ofZ w64 (toZ w64 (ofZ w64 (toZ w32 (ofZ w32 c))) *ℤ pos 2147483648)) ≡ level -ℤ c *ℤ pos 2147483648
-  rest-is c h = rw (level-back, raised-is c h)
+      (ofZ w64 (toZ w64 (ofZ w64 (toZ w32 (ofZ w32 c))) *ℤ pos 2147483648)) ≡ lifted -ℤ c *ℤ pos 2147483648
+  rest-is c h = rw (lifted-back, raised-is c h)
 
   all : (c : ℤ) → natAbs c ≤ 64 * 2 ^ 17
       → toZ w64 (ofZ w64 (toZ w64 (ofZ w64 (toZ w64 u -ℤ toZ w64 (v * 131072))) -ℤ toZ w64
-      (ofZ w64 (toZ w64 (ofZ w64 (toZ w32 (ofZ w32 c))) *ℤ pos 2147483648)))) ≡ level -ℤ c *ℤ pos 2147483648
+      (ofZ w64 (toZ w64 (ofZ w64 (toZ w32 (ofZ w32 c))) *ℤ pos 2147483648)))) ≡ lifted -ℤ c *ℤ pos 2147483648
   all c h = rw (rest-is c h) (toZ-ofZ (rest-fits c h))
 
 -- ---- the code
@@ -80,7 +80,7 @@ cast-t5 : tie.Need-cast-t5
 cast-t5 c = search needs
 
 sub-t6 : tie.Need-sub-t6
-sub-t6 c = let a = c .before .before .before .before in level-fits (a .args .s .i) (a .args .s .«line_i») (a .pre .i) (a .pre .line-i)
+sub-t6 c = let a = c .before .before .before .before in lifted-fits (a .args .s .i) (a .args .s .«line_i») (a .pre .i) (a .pre .line-i)
 
 sub-t7 : tie.Need-sub-t7
 sub-t7 c =
@@ -99,7 +99,7 @@ cast-t10 : tie.Need-cast-t10
 cast-t10 c = search needs
 
 sub-t11 : tie.Need-sub-t11
-sub-t11 c = let a = c .before .before .before .before .before .before in level-fits (a .args .s .q) (a .args .s .«line_q») (a .pre .q) (a .pre .line-q)
+sub-t11 c = let a = c .before .before .before .before .before .before in lifted-fits (a .args .s .q) (a .args .s .«line_q») (a .pre .q) (a .pre .line-q)
 
 sub-t12 : tie.Need-sub-t12
 sub-t12 c =
@@ -116,8 +116,8 @@ returns c =
     let q = all (s .q) (s .«line_q») (a .pre .q) (a .pre .line-q) (s .coefficients) (a .pre .coefficients) in
     λ t. record { i = i t; q = q t }
 
-pub lowered-spec : {M : Type 1} → statement M
-lowered-spec =
+pub unraised-spec : {M : Type 1} → statement M
+unraised-spec =
     tie.close
     (tie.spec
     cast-raised
