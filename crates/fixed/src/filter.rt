@@ -24,6 +24,7 @@ struct Detected {
     g: Sums,
 }
 
+// A row's sums with one coefficient more, times the two numbers of the line that it meets.
 fn with_products(s: Sums, c: i32, x: i64, y: i64) -> Sums
     requires { ⌜ SumsUpto 128 s ⌝ }
     requires { ⌜ (natAbs c ≤ 131071) × ((natAbs x ≤ 2147483648) × (natAbs y ≤ 2147483648)) ⌝ }
@@ -66,7 +67,8 @@ struct Raised {
     line_q: u64,
 }
 
-// The numbers of the line are below 2^32. Their remainders are there for the compiler, which then takes each from the lower half of its 64 bits.
+// The same of a row of k. The numbers of the line are below 2^32: their remainders are there for the compiler, which then takes each from the lower half of
+// its 64 bits.
 fn with_tap(s: Raised, c: i32, x: u64, y: u64) -> Raised
     requires { ⌜ RaisedUpto 128 s ⌝ }
     requires { ⌜ (natAbs c ≤ 131071) × ((x < 4294967296) × (y < 4294967296)) ⌝ }
