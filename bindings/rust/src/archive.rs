@@ -12,8 +12,14 @@
 /// Places of a sheet.
 pub const SHEET: usize = 18;
 
-/// Places of a state.
-pub const STATE: usize = 186;
+/// Places of a state: registers, positions, counts, and the 18 fields of the sheet that it holds.
+pub const STATE: usize = 28;
+
+/// Numbers of a state's line: 64 pairs I, Q.
+pub const LINE: usize = 128;
+
+/// Numbers of a state's errors: a ring of 24 pairs e, err.
+pub const ERRORS: usize = 48;
 
 /// Places of a symbol.
 pub const SYMBOL: usize = 20;
@@ -30,7 +36,10 @@ pub const BLOCK_TAKEN: usize = 1;
 /// The place of a block's answer that has how many numbers of its symbols were clipped, 12 a symbol at most: see [`Block::clips`](crate::Block::clips).
 pub const BLOCK_CLIPS: usize = 2;
 
-/// The places of a state that are read here. The others are the archive's alone.
+/// Where the fields of the held sheet begin among the places of a state.
+pub const STATE_SHEET: usize = 10;
+
+/// The other places of a state that are read here. All others are the archive's alone.
 pub(crate) const STATE_T: usize = 1;
 pub(crate) const STATE_SAMPLES: usize = 9;
 
@@ -56,6 +65,10 @@ unsafe extern "C" {
         k_len: usize,
         state: *mut i64,
         state_len: usize,
+        line: *mut i32,
+        line_len: usize,
+        errors: *mut i32,
+        errors_len: usize,
     ) -> u32;
     fn huntelm_block(
         sheet: *const i64,
@@ -68,6 +81,10 @@ unsafe extern "C" {
         k_len: usize,
         state: *mut i64,
         state_len: usize,
+        line: *mut i32,
+        line_len: usize,
+        errors: *mut i32,
+        errors_len: usize,
         values: *const i16,
         values_len: usize,
         out: *mut i64,
@@ -86,8 +103,47 @@ unsafe extern "C" {
         k_len: usize,
         state: *const i64,
         state_len: usize,
+        line: *const i32,
+        line_len: usize,
+        errors: *const i32,
+        errors_len: usize,
         answer: *mut i64,
         answer_len: usize,
+    ) -> u32;
+    fn huntelm_ask(
+        sheet: *const i64,
+        sheet_len: usize,
+        h: *const i32,
+        h_len: usize,
+        g: *const i32,
+        g_len: usize,
+        k: *const i32,
+        k_len: usize,
+        state: *const i64,
+        state_len: usize,
+        line: *const i32,
+        line_len: usize,
+        errors: *const i32,
+        errors_len: usize,
+        answer: *mut i64,
+        answer_len: usize,
+    ) -> u32;
+    fn huntelm_commit(
+        ticket: u64,
+        sheet: *const i64,
+        sheet_len: usize,
+        h: *const i32,
+        h_len: usize,
+        g: *const i32,
+        g_len: usize,
+        k: *const i32,
+        k_len: usize,
+        state: *mut i64,
+        state_len: usize,
+        line: *const i32,
+        line_len: usize,
+        errors: *const i32,
+        errors_len: usize,
     ) -> u32;
     fn huntelm_offset(
         sheet: *const i64,
@@ -124,6 +180,29 @@ unsafe extern "C" {
     ) -> u32;
 }
 
+/// A state as the calls are lent it to read: [`STATE`] places, [`LINE`] numbers of the line and [`ERRORS`] of the errors. Slices of other lengths are no
+/// state, and are refused (9).
+#[derive(Debug, Clone, Copy)]
+pub struct State<'a> {
+    /// Registers, positions, counts and the held sheet.
+    pub places: &'a [i64],
+    /// The line: I and Q of each pair.
+    pub line: &'a [i32],
+    /// The ring of waiting errors: e and err of each pair.
+    pub errors: &'a [i32],
+}
+
+/// The same to write.
+#[derive(Debug)]
+pub struct StateMut<'a> {
+    /// Registers, positions, counts and the held sheet.
+    pub places: &'a mut [i64],
+    /// The line: I and Q of each pair.
+    pub line: &'a mut [i32],
+    /// The ring of waiting errors: e and err of each pair.
+    pub errors: &'a mut [i32],
+}
+
 /// A sheet's places and its banks, as the calls are lent them.
 #[derive(Debug, Clone, Copy)]
 pub struct Sheet<'a> {
@@ -156,8 +235,8 @@ impl Sheet<'_> {
     }
 
     /// Writes a fresh state.
-    pub fn start(self, state: &mut [i64]) -> u32 {
-        // SAFETY: slices; the one for writing is a `&mut`.
+    pub fn start(self, state: StateMut) -> u32 {
+        // SAFETY: slices; those for writing are `&mut`.
         unsafe {
             huntelm_start(
                 self.places.as_ptr(),
@@ -168,8 +247,12 @@ impl Sheet<'_> {
                 self.g.len(),
                 self.k.as_ptr(),
                 self.k.len(),
-                state.as_mut_ptr(),
-                state.len(),
+                state.places.as_mut_ptr(),
+                state.places.len(),
+                state.line.as_mut_ptr(),
+                state.line.len(),
+                state.errors.as_mut_ptr(),
+                state.errors.len(),
             )
         }
     }
@@ -182,13 +265,14 @@ impl Sheet<'_> {
     /// not refused and was offered a pair, it takes at least one, so this comes to its end:
     ///
     /// ```
-    /// use huntelm::archive::{BLOCK, BLOCK_COUNT, BLOCK_TAKEN, SYMBOL, Sheet};
+    /// use huntelm::archive::{BLOCK, BLOCK_COUNT, BLOCK_TAKEN, SYMBOL, Sheet, StateMut};
     ///
-    /// fn all(sheet: Sheet, state: &mut [i64], mut values: &[i16], symbols: &mut Vec<i64>) -> u32 {
+    /// fn all(sheet: Sheet, state: StateMut, mut values: &[i16], symbols: &mut Vec<i64>) -> u32 {
+    ///     let StateMut { places, line, errors } = state;
     ///     let mut out = [0; 2 * SYMBOL];
     ///     let mut answer = [0; BLOCK];
     ///     while !values.is_empty() {
-    ///         let refused = sheet.block(state, values, &mut out, &mut answer);
+    ///         let refused = sheet.block(StateMut { places, line, errors }, values, &mut out, &mut answer);
     ///         if refused != 0 {
     ///             return refused;
     ///         }
@@ -200,12 +284,12 @@ impl Sheet<'_> {
     /// ```
     pub fn block(
         self,
-        state: &mut [i64],
+        state: StateMut,
         values: &[i16],
         out: &mut [i64],
         answer: &mut [i64],
     ) -> u32 {
-        // SAFETY: slices; the three for writing are `&mut`.
+        // SAFETY: slices; those for writing are `&mut`.
         unsafe {
             huntelm_block(
                 self.places.as_ptr(),
@@ -216,8 +300,12 @@ impl Sheet<'_> {
                 self.g.len(),
                 self.k.as_ptr(),
                 self.k.len(),
-                state.as_mut_ptr(),
-                state.len(),
+                state.places.as_mut_ptr(),
+                state.places.len(),
+                state.line.as_mut_ptr(),
+                state.line.len(),
+                state.errors.as_mut_ptr(),
+                state.errors.len(),
                 values.as_ptr(),
                 values.len(),
                 out.as_mut_ptr(),
@@ -229,7 +317,7 @@ impl Sheet<'_> {
     }
 
     /// Writes a state's period, its gain and its number of symbols.
-    pub fn read(self, state: &[i64], answer: &mut [i64]) -> u32 {
+    pub fn read(self, state: State, answer: &mut [i64]) -> u32 {
         // SAFETY: slices; the one for writing is a `&mut`.
         unsafe {
             huntelm_read(
@@ -241,10 +329,63 @@ impl Sheet<'_> {
                 self.g.len(),
                 self.k.as_ptr(),
                 self.k.len(),
-                state.as_ptr(),
-                state.len(),
+                state.places.as_ptr(),
+                state.places.len(),
+                state.line.as_ptr(),
+                state.line.len(),
+                state.errors.as_ptr(),
+                state.errors.len(),
                 answer.as_mut_ptr(),
                 answer.len(),
+            )
+        }
+    }
+
+    /// Asks whether this sheet may be put into a state, and writes the ticket for [`commit`](Self::commit) to the first place of `answer`.
+    pub fn ask(self, state: State, answer: &mut [i64]) -> u32 {
+        // SAFETY: slices; the one for writing is a `&mut`.
+        unsafe {
+            huntelm_ask(
+                self.places.as_ptr(),
+                self.places.len(),
+                self.h.as_ptr(),
+                self.h.len(),
+                self.g.as_ptr(),
+                self.g.len(),
+                self.k.as_ptr(),
+                self.k.len(),
+                state.places.as_ptr(),
+                state.places.len(),
+                state.line.as_ptr(),
+                state.line.len(),
+                state.errors.as_ptr(),
+                state.errors.len(),
+                answer.as_mut_ptr(),
+                answer.len(),
+            )
+        }
+    }
+
+    /// Puts this sheet into a state: its fields become the held ones, from place [`STATE_SHEET`] on. Line and errors are only read.
+    pub fn commit(self, ticket: u64, places: &mut [i64], line: &[i32], errors: &[i32]) -> u32 {
+        // SAFETY: slices; the one for writing is a `&mut`.
+        unsafe {
+            huntelm_commit(
+                ticket,
+                self.places.as_ptr(),
+                self.places.len(),
+                self.h.as_ptr(),
+                self.h.len(),
+                self.g.as_ptr(),
+                self.g.len(),
+                self.k.as_ptr(),
+                self.k.len(),
+                places.as_mut_ptr(),
+                places.len(),
+                line.as_ptr(),
+                line.len(),
+                errors.as_ptr(),
+                errors.len(),
             )
         }
     }

@@ -10,6 +10,7 @@ use lib.Dec.{eqb, leb, lit<}
 use types.Run.{OneOf}
 use denote.Enum.Declared.{tagOf}
 use borrow.Author.Tests.{eq-eqb, eqb-true, le-leb, leb-true, ne-eqb}
+use Rattle.arith.proofs.Both.{and-left, and-right}
 use Rattle.params.specs.declared.Params.{Params as Fields}
 use Rattle.params.specs.declared.ParamError.{ParamError}
 use Rattle.params.specs.declared.Verdict.{Verdict}
@@ -19,11 +20,13 @@ use Rattle.params.specs.Judge.{Sheet, faults, judged}
 use Rattle.params.proofs.Faults.{Numbered, numbered-append, numbered-unless, first-none, none-first, first-append, error-numbered, refused, faults-numbered}
 use Rattle.params.proofs.Faults.{kept, none-at, none-left, none-right}
 use Rattle.params.proofs.Accepted.{Accepted as AcceptedSheet, no-faults}
+use Rattle.fields.specs.Fields.{sameFields}
+use Rattle.fields.proofs.Same.{equal-sheets}
 use Rattle.state.specs.declared.Frontend.{Frontend}
 use Rattle.state.specs.declared.Position.{Position}
 use Rattle.state.specs.declared.FrontendVerdict.{FrontendVerdict}
 use Rattle.state.specs.declared.FrontendVerdict.the-variants.{Accepted, Params, State, OddInput, ShortOutput, TooManySamples}
-use Rattle.state.specs.Check.{goodState, stateFaults, pairsTaken, sizeFaults, blockFaults, frontendRefusal, outline}
+use Rattle.state.specs.Check.{goodState, canGoOn, stateFaults, pairsTaken, sizeFaults, blockFaults, frontendRefusal, outline}
 use Rattle.state.proofs.FrontendVerdict as verdict
 
 -- ---- two lists of faults, one after the other
@@ -39,7 +42,7 @@ first-answer a b h e = e ∙ sym (first-append a b (subst (λ (q : Refusal). 0 <
 -- ---- faults are numbered
 
 pub state-numbered : (s : Sheet) (f : Frontend) → Numbered (stateFaults s f)
-state-numbered s f = numbered-append (faults s) _ (faults-numbered s) (numbered-unless (goodState (s .params) f) (refusal 9 []) (lit< tt))
+state-numbered s f = numbered-append (faults s) _ (faults-numbered s) (numbered-unless (canGoOn (s .params) f) (refusal 9 []) (lit< tt))
 
 pub sizes-numbered : (f : Frontend) (values places : ℕ) → Numbered (sizeFaults f values places)
 unfolding sizeFaults flatten
@@ -88,7 +91,7 @@ unfolding judged
 sheet-refuses s rest {v} {e} told is = first-answer (faults s) rest (error-numbered e) (refused told is)
 
 -- of an accepted sheet the state's test decides
-pub state-answer : (s : Sheet) (f : Frontend) {b : Bool} → faults s ≡ [] → goodState (s .params) f ≡ b
+pub state-answer : (s : Sheet) (f : Frontend) {b : Bool} → faults s ≡ [] → canGoOn (s .params) f ≡ b
     → firstOf (unless b (refusal 9 [])) ≡ firstOf (stateFaults s f)
 state-answer s f none e = sym (first-rest (faults s) _ none ∙ ap (λ (b : Bool). firstOf (unless b (refusal 9 []))) e)
 
@@ -115,8 +118,17 @@ sizes-answer s f values places none e = e ∙ sym (first-rest (stateFaults s f) 
 
 -- ---- where there is no fault
 
+pub goes-on : (s : Sheet) (f : Frontend) → stateFaults s f ≡ [] → canGoOn (s .params) f ≡ true
+goes-on s f e = kept (canGoOn (s .params) f) (refusal 9 []) (none-right (faults s) _ e)
+
+-- the state is good under the sheet, and holds it
 pub state-good : (s : Sheet) (f : Frontend) → stateFaults s f ≡ [] → goodState (s .params) f ≡ true
-state-good s f e = kept (goodState (s .params) f) (refusal 9 []) (none-right (faults s) _ e)
+unfolding canGoOn
+state-good s f e = and-right (sameFields (s .params) (f .params)) (goodState (s .params) f) (goes-on s f e)
+
+pub state-holds : (s : Sheet) (f : Frontend) → stateFaults s f ≡ [] → s .params ≡ f .params
+unfolding canGoOn
+state-holds s f e = equal-sheets (s .params) (f .params) (and-left (sameFields (s .params) (f .params)) (goodState (s .params) f) (goes-on s f e))
 
 -- no values, or 20 places
 pub enough : (values places : ℕ) → (values ≡ 0) ⊎ (20 ≤ places) → (eqb values 0 || leb 20 places) ≡ true
@@ -162,6 +174,7 @@ takes-some f {values} {places} s h = go (s .room)
 pub record Faultless (s : Sheet) (f : Frontend) (values places : ℕ) : Type 0 where
   pub judged-so : judged s ≡ nothing
   pub sheet : AcceptedSheet s
+  pub holds : s .params ≡ f .params
   pub good : goodState (s .params) f ≡ true
   pub sizes : Sized f values places
 
@@ -173,6 +186,7 @@ faultless s f values places e =
     record {
       judged-so = none-first (faults s) sheet;
       sheet = no-faults s sheet;
+      holds = state-holds s f state;
       good = state-good s f state;
       sizes = sized f values places (none-right (stateFaults s f) _ e);
     }

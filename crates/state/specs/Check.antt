@@ -10,6 +10,7 @@ use Rattle.params.specs.declared.Params.{Params}
 use Rattle.params.specs.Refusal.{Refusal, refusal, nothing, errorRefusal, unless}
 use Rattle.params.specs.Judge.{Sheet, faults}
 use Rattle.arith.specs.Arith.{within}
+use Rattle.fields.specs.Fields.{noFields, sameFields}
 use Rattle.registers.specs.declared.Registers.{Registers}
 use Rattle.registers.specs.Correct.{integratorEnd}
 use Rattle.state.specs.declared.Frontend.{Frontend}
@@ -17,7 +18,8 @@ use Rattle.state.specs.declared.Position.{Position}
 use Rattle.state.specs.declared.FrontendVerdict.{FrontendVerdict}
 use Rattle.state.specs.Start.{ringPlaces}
 
--- 9: the state is one that a block can go on from: positions within the line and the queue, time and registers within their bounds, and counts that agree.
+-- The state is good under a sheet: positions within the line and the queue, time and registers within their bounds, and counts that agree. What sheet it
+-- holds is not asked.
 unfoldable pub goodState : Params → Frontend → Bool
 goodState p f =
     let r : Registers = f .registers in
@@ -26,9 +28,13 @@ goodState p f =
     && leb (p .«period_min») (r .period) && leb (r .period) (p .«period_max») && leb (r .«gain_acc») 16777215
     && eqb (f .waiting) (min (r .symbols) (p .delay)) && ltb (f .oldest) ringPlaces && leb (r .symbols) (f .samples)
 
+-- 9: a block can go on from the state: it holds this sheet, and is good under it.
+unfoldable pub canGoOn : Params → Frontend → Bool
+canGoOn p f = sameFields p (f .params) && goodState p f
+
 -- 1 to 8, 29, then 9, of a sheet and a state.
 abbrev pub stateFaults : Sheet → Frontend → List Refusal
-stateFaults s f = faults s ++ unless (goodState (s .params) f) (refusal 9 [])
+stateFaults s f = faults s ++ unless (canGoOn (s .params) f) (refusal 9 [])
 
 -- How many pairs of so many sample values a block takes, with so many output places: all, or as many as there are 20 places for. Both are rounded down.
 unfoldable pub pairsTaken : ℕ → ℕ → ℕ
@@ -59,4 +65,13 @@ frontendRefusal FrontendVerdict.TooManySamples = refusal 12 []
 
 -- A state of which only the registers and positions count.
 abbrev pub outline : Registers → Position → Frontend
-outline r w = record { registers = r; line = []; head = w .head; pending = []; oldest = w .oldest; waiting = w .waiting; samples = w .samples }
+outline r w = record {
+  params = noFields;
+  registers = r;
+  line = [];
+  head = w .head;
+  pending = [];
+  oldest = w .oldest;
+  waiting = w .waiting;
+  samples = w .samples;
+}

@@ -7,6 +7,7 @@ use lib.IntN.{pos}
 use Rattle.params.specs.declared.Params.{Params}
 use Rattle.params.specs.Refusal.{Refusal, verdictRefusal}
 use Rattle.params.specs.Judge.{Sheet, judged}
+use Rattle.fields.specs.Fields.{noFields}
 use Rattle.registers.specs.declared.Pending.{Pending}
 use Rattle.state.specs.declared.Pair.{Pair}
 use Rattle.state.specs.declared.Frontend.{Frontend}
@@ -22,10 +23,13 @@ noPending = record { e = pos 0; err = pos 0 }
 abbrev pub ringPlaces : ℕ
 ringPlaces = 24
 
--- A state at rest with this period and this gain accumulator: nothing in the line, nothing waiting, nothing counted.
-abbrev pub atRest : ℕ → ℕ → Frontend
-atRest period gain = record {
-  registers = record { nco = 0; «t_acc» = pos 0; v = pos 0; period = period; «gain_acc» = gain; symbols = 0 };
+-- The fresh state: it holds the sheet's fields, with the nominal period and the first gain; nothing in the line, nothing waiting, nothing counted. Without
+-- fields it is zeros throughout.
+-- (RULES 3.1)
+unfoldable pub fresh : Params → Frontend
+fresh p = record {
+  params = p;
+  registers = record { nco = 0; «t_acc» = pos 0; v = pos 0; period = p .«period_nominal»; «gain_acc» = p .«agc_init»; symbols = 0 };
   line = replicate 64 noPair;
   head = 0;
   pending = replicate ringPlaces noPending;
@@ -33,11 +37,6 @@ atRest period gain = record {
   waiting = 0;
   samples = 0;
 }
-
--- The fresh state: at rest, with the sheet's nominal period and first gain.
--- (RULES 3.1)
-unfoldable pub fresh : Params → Frontend
-fresh p = atRest (p .«period_nominal») (p .«agc_init»)
 
 -- A refusal, or nothing, with a state.
 pub record Start : Type 0 where
@@ -49,7 +48,7 @@ pub record Start : Type 0 where
 unfoldable pub startOf : Sheet → Start
 startOf s =
     let r : Refusal = judged s in
-    record { refused = r; state = cond (eqb (r .number) 0) (fresh (s .params)) (atRest 0 0) }
+    record { refused = r; state = fresh (cond (eqb (r .number) 0) (s .params) noFields) }
 
 -- What the code's answer says in these terms.
 abbrev pub started : Started → Start

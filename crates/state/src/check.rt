@@ -9,9 +9,9 @@ use registers::Registers;
 ghost use mathlib.Core.Path.{_≡_};
 ghost use Rattle.params.specs.Refusal.{firstOf};
 ghost use Rattle.params.specs.Judge.{sheetOf};
-ghost use Rattle.state.specs.Check.{outline, goodState, stateFaults, pairsTaken, sizeFaults, blockFaults, frontendRefusal};
+ghost use Rattle.state.specs.Check.{outline, goodState, canGoOn, stateFaults, pairsTaken, sizeFaults, blockFaults, frontendRefusal};
 
-// 9: whether a block can go on from these registers and positions.
+// Whether these registers and positions are within their bounds under a sheet.
 fn is_good_state(p: Params, r: Registers, w: Position) -> bool
     ensures { λ b. ⌜ b ≡ goodState p (outline r w) ⌝ }
 {
@@ -55,6 +55,22 @@ impl Frontend {
         }
     }
 
+    // Whether the state is good under a sheet (RULES 4.1), be that the held one or another.
+    pub fn is_good(self, p: Params) -> bool
+        ensures { λ b. ⌜ b ≡ goodState p self ⌝ }
+    {
+        let registers = self.registers;
+        is_good_state(p, registers, self.position())
+    }
+
+    // 9: whether a block can go on from the state: it holds this sheet, and is good under it.
+    fn can_go_on(self, p: Params) -> bool
+        ensures { λ b. ⌜ b ≡ canGoOn p self ⌝ }
+    {
+        let held = self.params;
+        fields::are_same(p, held) & self.is_good(p)
+    }
+
     // 1 to 8, 29, then 9.
     pub(crate) fn check_state(self, p: Params, h: &[i32], g: &[i32], k: &[i32]) -> FrontendVerdict
         ensures { λ r. ⌜ frontendRefusal r ≡ firstOf (stateFaults (sheetOf p (now (h .entry)) (now (g .entry)) (now (k .entry))) self) ⌝ }
@@ -63,8 +79,7 @@ impl Frontend {
         if let Verdict::Refused(e) = verdict {
             return FrontendVerdict::Params(e);
         }
-        let registers = self.registers;
-        if !is_good_state(p, registers, self.position()) {
+        if !self.can_go_on(p) {
             return FrontendVerdict::State;
         }
         FrontendVerdict::Accepted

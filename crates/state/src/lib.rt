@@ -5,6 +5,7 @@ mod start;
 
 pub use check::pairs_taken;
 use params::ParamError;
+use params::Params;
 use params::Verdict;
 use registers::Pending;
 use registers::Registers;
@@ -22,6 +23,8 @@ pub struct Pair {
 
 // All that is kept between samples (RULES 3.1).
 pub struct Frontend {
+    // The fields of the held sheet: that of the start, or the one that was committed last.
+    pub params: Params,
     pub registers: Registers,
     // The last `taps` mixed samples, and the newest's position, which falls modulo taps (RULES 3.4).
     pub line: [Pair; 64],

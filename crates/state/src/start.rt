@@ -9,12 +9,12 @@ use registers::Pending;
 use registers::Registers;
 ghost use mathlib.Core.Path.{_≡_};
 ghost use Rattle.params.specs.Judge.{sheetOf};
-ghost use Rattle.state.specs.Start.{atRest, startOf, started};
+ghost use Rattle.state.specs.Start.{fresh, startOf, started};
 
 impl Frontend {
-    // A state at rest with this period and this gain accumulator.
-    pub fn at_rest(period: u32, gain_acc: u32) -> Frontend
-        ensures { λ r. ⌜ r ≡ atRest period «gain_acc» ⌝ }
+    // The state before the first sample, under a sheet of these fields. Of no fields, `fields::none()`, it is zeros throughout.
+    pub fn fresh(p: Params) -> Frontend
+        ensures { λ r. ⌜ r ≡ fresh p ⌝ }
     {
         let pair = Pair { i: 0, q: 0 };
         let pending = Pending { e: 0, err: 0 };
@@ -22,11 +22,12 @@ impl Frontend {
             nco: 0,
             t_acc: 0,
             v: 0,
-            period,
-            gain_acc,
+            period: p.period_nominal,
+            gain_acc: p.agc_init,
             symbols: 0,
         };
         Frontend {
+            params: p,
             registers,
             line: [pair; 64],
             head: 0,
@@ -45,12 +46,12 @@ impl Frontend {
         if let Verdict::Refused(e) = verdict {
             return Started {
                 verdict: Verdict::Refused(e),
-                state: Frontend::at_rest(0, 0),
+                state: Frontend::fresh(fields::none()),
             };
         }
         Started {
             verdict: Verdict::Accepted,
-            state: Frontend::at_rest(p.period_nominal, p.agc_init),
+            state: Frontend::fresh(p),
         }
     }
 }

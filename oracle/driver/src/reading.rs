@@ -1,19 +1,24 @@
 //! A reading of docs/RULES.md, written apart from crates/: plain arithmetic in 128 bits and no care for speed. Of isdb-rs's
 //! code it uses judging and the cosine table and nothing else. It answers where isdb-rs has no answer: the offset, clips, calls
-//! that are refused, states that no run reaches. Where isdb-rs has one, the two are held against each other (both.rs).
+//! that are refused, retunes, states that no run reaches. Where isdb-rs has one, the two are held against each other (both.rs).
 
+mod retune;
 mod way;
+
+pub use retune::{Asked, Committed};
 
 use crate::sheet::Sheet;
 use crate::state::{RING, State};
 use isdb_frontend::tables::cos_table;
+use std::borrow::Cow;
 
 /// Numbers that a symbol writes.
 pub const SYMBOL: usize = 20;
 
 /// A sheet and what isdb-rs says of it, with the cosine wheel.
+#[derive(Clone)]
 pub struct Reading<'a> {
-    sheet: &'a Sheet,
+    sheet: Cow<'a, Sheet>,
     refusal: Vec<i64>,
     wheel: Vec<i128>,
 }
@@ -52,11 +57,24 @@ pub struct Read {
 
 impl<'a> Reading<'a> {
     pub fn of(sheet: &'a Sheet) -> Self {
+        Self::new(Cow::Borrowed(sheet))
+    }
+
+    /// The same of a sheet that is given away.
+    pub fn owning(sheet: Sheet) -> Self {
+        Self::new(Cow::Owned(sheet))
+    }
+
+    fn new(sheet: Cow<'a, Sheet>) -> Self {
         Self {
-            sheet,
             refusal: sheet.judge(),
+            sheet,
             wheel: cos_table().into_iter().map(i128::from).collect(),
         }
+    }
+
+    pub fn sheet(&self) -> &Sheet {
+        &self.sheet
     }
 
     /// What judging the sheet answers: a refusal's number and what it carries, or nothing.
@@ -68,7 +86,7 @@ impl<'a> Reading<'a> {
     /// thousand millionths of this one, to the nearest whole number; where two are as near, the one farther from zero.
     /// A slow sender has a number below zero. With it comes the number of the refusal or 0.
     pub fn offset(&self, period: u32) -> (i64, i64) {
-        let sheet = self.sheet;
+        let sheet = self.sheet();
         if let Some(number) = self.refusal.first() {
             return (0, *number);
         }
@@ -90,6 +108,7 @@ impl<'a> Reading<'a> {
             [] => State {
                 period: self.sheet.period_nominal.into(),
                 gain_acc: self.sheet.agc_init.into(),
+                held: self.sheet.fields(),
                 ..State::zeros()
             },
             _ => State::zeros(),
@@ -155,16 +174,17 @@ impl<'a> Reading<'a> {
         }
     }
 
+    /// What a block and a reading refuse of a state: also one that holds another sheet.
     fn state_refusal(&self, state: &State) -> Vec<i64> {
         match self.refusal[..] {
-            [] if !self.can_go_on(state) => vec![9],
+            [] if !self.is_good(state) || state.held != self.sheet.fields() => vec![9],
             _ => self.refusal.clone(),
         }
     }
 
     /// Whether every position, register and count of the state is within its bounds.
-    fn can_go_on(&self, state: &State) -> bool {
-        let sheet = self.sheet;
+    fn is_good(&self, state: &State) -> bool {
+        let sheet = self.sheet();
         let most = self.integrator_bound();
         (0..i128::from(sheet.taps)).contains(&state.head)
             && (0..1 << 26).contains(&state.t_acc)

@@ -1,6 +1,6 @@
 //! A front end's whole state. isdb-rs keeps it private, but shows all of it in its debug form, which is read here.
 
-use crate::sheet::joined;
+use crate::sheet::{FIELDS, joined};
 use isdb_frontend::fixed::Frontend;
 use std::io::{self, Write};
 
@@ -9,6 +9,9 @@ pub const RING: usize = 24;
 
 /// Pairs of errors by their places.
 pub type Errors = [[i128; 2]; RING];
+
+/// The fields of a sheet, in their order.
+pub type Held = [i64; FIELDS.len()];
 
 /// A state in the form that RULES 3.1 gives it, with its numbers wide enough for any that its types can hold.
 #[derive(Debug, Clone)]
@@ -26,6 +29,8 @@ pub struct State {
     /// How many errors wait.
     pub waiting: i128,
     pub samples: i128,
+    /// The fields of the sheet that the state runs under.
+    pub held: Held,
     pub line: [[i128; 2]; 64],
     pub errors: Errors,
 }
@@ -43,6 +48,7 @@ impl State {
             oldest: 0,
             waiting: 0,
             samples: 0,
+            held: [0; FIELDS.len()],
             line: [[0, 0]; 64],
             errors: [[0, 0]; RING],
         }
@@ -50,8 +56,8 @@ impl State {
 
     /// The state of a front end of isdb-rs. Its queue has no positions: those of RULES 3.6 follow from the symbols that
     /// were made, symbol j's errors standing at place j modulo 24. It keeps nothing of errors that no longer wait; `left` is
-    /// what the symbols left in all places.
-    pub fn of(front: &Frontend, left: &Errors) -> Self {
+    /// what the symbols left in all places. What it holds of its sheet has no delay, and is given likewise.
+    pub fn of(front: &Frontend, held: Held, left: &Errors) -> Self {
         let text = format!("{front:?}");
         let text = whole(&text);
         let number = |name| value(text, name).parse().expect("a number");
@@ -68,6 +74,7 @@ impl State {
             oldest: (symbols - waiting.len() as i128) % RING as i128,
             waiting: waiting.len() as i128,
             samples: number("samples"),
+            held,
             errors: *left,
             ..Self::zeros()
         };
@@ -80,9 +87,18 @@ impl State {
         state
     }
 
-    /// The 186 numbers of a row: ten of the state's own, the line's pairs, the waiting errors by their places. An
-    /// unsigned number of 64 bits is the signed one that has its bits.
+    /// The 204 numbers of a row: ten of the state's own, the fields of the held sheet, the line's pairs, the waiting errors
+    /// by their places.
     pub fn numbers(&self) -> Vec<i64> {
+        let pairs = self.line.iter().chain(&self.errors).flatten();
+        self.places()
+            .into_iter()
+            .chain(pairs.map(|n| *n as i64))
+            .collect()
+    }
+
+    /// The first 28 of these. An unsigned number of 64 bits is the signed one that has its bits.
+    pub fn places(&self) -> Vec<i64> {
         let own = [
             self.nco,
             self.t_acc,
@@ -95,10 +111,9 @@ impl State {
             self.waiting,
             self.samples,
         ];
-        own.iter()
-            .chain(self.line.as_flattened())
-            .chain(self.errors.as_flattened())
-            .map(|n| *n as i64)
+        own.into_iter()
+            .map(|n| n as i64)
+            .chain(self.held)
             .collect()
     }
 

@@ -36,7 +36,7 @@ impl Reading<'_> {
     }
 
     fn symbol(&self, s: &mut State) -> Symbol {
-        let sheet = self.sheet;
+        let sheet = self.sheet();
         let phase = s.t_acc >> 18;
         if s.waiting == i128::from(sheet.delay) {
             let errors = taken(s);
@@ -67,7 +67,7 @@ impl Reading<'_> {
 
     /// What errors that are due do to integrator, period and gain.
     fn steer(&self, s: &mut State, [e, err]: [i128; 2]) {
-        let sheet = self.sheet;
+        let sheet = self.sheet();
         let most = self.integrator_bound();
         s.v = (s.v + rounded(i128::from(sheet.ki) * e, sheet.ki_shift)).clamp(-most, most);
         let nominal = i128::from(sheet.period_nominal);

@@ -1,5 +1,5 @@
 -- `state::Frontend::check_state` meets its contract: the sheet is judged first, and then the state is tested as the definition does.
--- The test sees only the registers and where the state stands, and the definition looks at nothing else.
+-- Of an accepted sheet that test decides alone.
 use mathlib.Core.Path.{_≡_, sym, _∙_}
 use mathlib.Core.Bool.{Bool}
 use mathlib.Core.List.{[]}
@@ -8,7 +8,7 @@ use borrow.Author.Tests.{not-true, not-false}
 use Rattle.params.specs.Refusal.{refusal, unless, firstOf}
 use Rattle.params.specs.Judge.{Sheet, sheetOf}
 use Rattle.state.specs.Check.{stateFaults}
-use Rattle.state.proofs.Verdicts.{sheet-passes, sheet-refuses, state-answer, outline-good}
+use Rattle.state.proofs.Verdicts.{sheet-passes, sheet-refuses, state-answer}
 use Rattle.state.proofs.Frontend.check_state.Statement.{statement}
 use Rattle.state.proofs.Frontend.check_state.Tie as tie
 
@@ -27,27 +27,22 @@ returns c = let v = c .before .before .before in sheet-refuses (sheet (v .before
 enum-told : tie.Need-enum-told
 enum-told c = search needs
 
-position-requires : tie.Need-position-requires
-position-requires c κs = search needs
-
-is-good-state-requires : tie.Need-is-good-state-requires
-is-good-state-requires c κs = search needs
+can-go-on-requires : tie.Need-can-go-on-requires
+can-go-on-requires c κs = search needs
 
 -- an accepted sheet: the answer by what the test came to
-tested : (c : tie.After-is-good-state) {b : Bool} → c .is-good-state .result ≡ b
-    → let s = c .before .before .before .before .before .before in firstOf (unless b (refusal 9 [])) ≡ firstOf (stateFaults (sheet s) (s .args .self))
+tested : (c : tie.After-can-go-on) {b : Bool} → c .can-go-on .result ≡ b
+    → let s = c .before .before .before .before in firstOf (unless b (refusal 9 [])) ≡ firstOf (stateFaults (sheet s) (s .args .self))
 tested c e =
-    let v = c .before .before .before .before .before in
-    let a = v .before .args in
-    state-answer (sheet (v .before)) (a .self)
-    (sheet-passes (sheet (v .before)) (v .validate .ensures) (c .before .before .before .enum-told .given .1))
-    (sym (outline-good (a .p) (a .self) (c .before .position .ensures)) ∙ sym (c .is-good-state .ensures) ∙ e)
+    let v = c .before .before .before in
+    state-answer (sheet (v .before)) (v .before .args .self) (sheet-passes (sheet (v .before)) (v .validate .ensures) (c .before .enum-told .given .1))
+    (sym (c .can-go-on .ensures) ∙ e)
 
 returns-2 : tie.Need-returns-2
-returns-2 c = tested (c .before) (not-true (c .before .is-good-state .result) (c .if1 .taken))
+returns-2 c = tested (c .before) (not-true (c .before .can-go-on .result) (c .if1 .taken))
 
 returns-3 : tie.Need-returns-3
-returns-3 c = tested (c .before) (not-false (c .before .is-good-state .result) (c .if1 .left))
+returns-3 c = tested (c .before) (not-false (c .before .can-go-on .result) (c .if1 .left))
 
 pub check-state-spec : {M : Type 1} → statement M
 check-state-spec =
@@ -57,7 +52,6 @@ check-state-spec =
     enum-known-verdict
     returns
     enum-told
-    position-requires
-    is-good-state-requires
+    can-go-on-requires
     returns-2
     returns-3)

@@ -1,0 +1,2 @@
+-- The laws that other crates' proofs cite.
+pub mod Same
