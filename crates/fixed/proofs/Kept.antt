@@ -180,6 +180,7 @@ module _ {s : Sheet} {x : Kept} (ready : Ready s x) where
   -- The state that is made of registers and positions, with the errors that would be applied.
   abbrev f₀ : Frontend
   f₀ = record {
+    params = p;
     registers = r;
     line = [];
     head = w .head;

@@ -43,6 +43,20 @@ module _ (s : Sheet) where
   run-samples f [] = omega arith
   run-samples f (x ∷ xs) = omega (arith, run-samples (next s f x) xs, next-samples f x)
 
+  -- and leaves the held sheet
+  next-params : (f : Frontend) (x : Pair) → next s f x .params ≡ f .params
+  unfolding next joined withSymbol withoutSymbol
+  next-params f x = go (falls f) refl
+    where
+      go : (b : Bool) → falls f ≡ b → next s f x .params ≡ f .params
+      go true e = rw e
+      go false e = rw e
+
+  pub run-params : (f : Frontend) (xs : List Pair) → after s f xs .params ≡ f .params
+  unfolding after
+  run-params f [] = refl
+  run-params f (x ∷ xs) = run-params (next s f x) xs ∙ next-params f x
+
 -- ---- the clips of symbols
 
 pub clips-append : (a b : List Symbol) → clipsOf (a ++ b) ≡ clipsOf a + clipsOf b

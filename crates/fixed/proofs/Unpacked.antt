@@ -10,6 +10,7 @@ use lib.ListN.{getD}
 use lib.Seq.{ext-getD, getD-set-other}
 use lib.IntN.{ℤ}
 use borrow.Author.Tests.{ltb-true, ltb-false}
+use Rattle.params.specs.declared.Params.{Params}
 use Rattle.params.specs.Judge.{Sheet}
 use Rattle.state.specs.declared.Pair.{Pair}
 use Rattle.registers.specs.declared.Pending.{Pending}
@@ -71,10 +72,11 @@ queue-packed {e} {err} {new} {packed} a b =
     ext-getD noPending packed new (b .long ∙ sym (a .long)) (λ n h. b .each n (omega (arith, b .long)) ∙ sym (a .each n (omega (arith, b .long))))
 
 -- the state, from what stands for it
-pub put-together : {taps : ℕ} {x : Kept} {new : Frontend} {line : List Pair} {pending : List Pending}
-    → Stands taps x new → line ≡ new .line → pending ≡ new .pending
+pub put-together : {taps : ℕ} {x : Kept} {new : Frontend} {held : Params} {line : List Pair} {pending : List Pending}
+    → Stands taps x new → held ≡ new .params → line ≡ new .line → pending ≡ new .pending
     → let w : Position = x .position in
     let f : Frontend = record {
+      params = held;
       registers = x .registers;
       line = line;
       head = w .head;
@@ -84,7 +86,8 @@ pub put-together : {taps : ℕ} {x : Kept} {new : Frontend} {line : List Pair} {
       samples = w .samples;
     } in
     f ≡ new
-put-together s line pending = λ t. record {
+put-together s held line pending = λ t. record {
+  params = held t;
   registers = sym (s .registers) t;
   line = line t;
   head = sym (s .head) t;

@@ -28,6 +28,7 @@ joined s f x =
     let r : Registers = f .registers in
     let head : ℕ = nextHead (p .taps) (f .head) in
     record {
+      params = f .params;
       registers = record { nco = nextNco p (r .nco); «t_acc» = r .«t_acc»; v = r .v; period = r .period; «gain_acc» = r .«gain_acc»; symbols = r .symbols };
       line = set (f .line) head (mixed (r .nco) x);
       head = head;
@@ -54,6 +55,7 @@ symbolOf s f =
 -- The registers are as the symbol leaves them, and its errors wait.
 unfoldable pub withSymbol : Sheet → Frontend → Frontend
 withSymbol s f = record {
+  params = f .params;
   registers = left (due (s .params) f);
   line = f .line;
   head = f .head;
@@ -70,6 +72,7 @@ unfoldable pub withoutSymbol : Frontend → Frontend
 withoutSymbol f =
     let r : Registers = f .registers in
     record {
+      params = f .params;
       registers = record { nco = r .nco; «t_acc» = r .«t_acc» -ℤ one; v = r .v; period = r .period; «gain_acc» = r .«gain_acc»; symbols = r .symbols };
       line = f .line;
       head = f .head;

@@ -101,6 +101,7 @@ fn run(
     let mut q = [0u64; 64];
     let mut e = [0i32; RING_PLACES];
     let mut err = [0i32; RING_PLACES];
+    let held = f.params;
     let line = f.line;
     let pending = f.pending;
     block::unpack_line(line, taps, &mut i, &mut q);
@@ -123,6 +124,7 @@ fn run(
     let r = s.registers;
     let w = s.position;
     let state = Frontend {
+        params: held,
         registers: r,
         line: block::pack_line(line, taps, &i, &q),
         head: w.head,

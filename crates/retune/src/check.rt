@@ -27,13 +27,7 @@ fn check_held(f: Frontend, p: Params) -> RetuneVerdict
     RetuneVerdict::Accepted
 }
 
-pub(crate) fn check_ask(
-    f: Frontend,
-    p: Params,
-    h: &[i32],
-    g: &[i32],
-    k: &[i32],
-) -> RetuneVerdict
+pub(crate) fn check_ask(f: Frontend, p: Params, h: &[i32], g: &[i32], k: &[i32]) -> RetuneVerdict
     ensures { λ r. ⌜ retuneRefusal r ≡ firstOf (askFaults (sheetOf p (now (h .entry)) (now (g .entry)) (now (k .entry))) f) ⌝ }
 {
     let verdict = p.validate(h, g, k);

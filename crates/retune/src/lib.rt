@@ -49,14 +49,7 @@ pub fn ask(f: Frontend, p: Params, h: &[i32], g: &[i32], k: &[i32]) -> Asked
 }
 
 // Puts a sheet into a state, with the ticket that asking gave.
-pub fn commit(
-    f: Frontend,
-    ticket: u64,
-    p: Params,
-    h: &[i32],
-    g: &[i32],
-    k: &[i32],
-) -> Committed
+pub fn commit(f: Frontend, ticket: u64, p: Params, h: &[i32], g: &[i32], k: &[i32]) -> Committed
     ensures { λ r. ⌜ committed r ≡ commitOf (sheetOf p (now (h .entry)) (now (g .entry)) (now (k .entry))) ticket f ⌝ }
 {
     let verdict = check::check_commit(f, ticket, p, h, g, k);

@@ -1,47 +1,44 @@
-//! A run from its start on by the reading of docs/RULES.md and, where isdb-rs was built with the delay of the sheet, by isdb-rs
-//! beside it. The answers are the reading's; where isdb-rs has another one, there is an error instead.
+//! A list of blocks and commits from its start on by the reading of docs/RULES.md and, where isdb-rs was built with the delay of
+//! the sheet, by isdb-rs beside it, as far as it has a counterpart. The answers are the reading's; where isdb-rs has another
+//! one, there is an error instead.
 
 use crate::front::Rust;
+use crate::lists::List;
 use crate::outputs;
-use crate::reading::{Block, Read, Reading};
-use crate::sheet::Sheet;
+use crate::reading::{Asked, Block, Committed, Read, Reading};
 use crate::state::State;
 use std::fmt::Debug;
 use std::io;
 
-pub struct Both<'a> {
-    sheet: &'a Sheet,
-    reading: Reading<'a>,
-    /// The state that the reading handed back last.
-    state: State,
-    /// The clips of all blocks so far.
-    clips: u64,
+pub struct Both {
+    list: List,
     rust: Option<Rust>,
 }
 
-impl<'a> Both<'a> {
-    pub fn start(sheet: &'a Sheet) -> Self {
-        let reading = Reading::of(sheet);
+impl Both {
+    pub fn start(reading: &Reading) -> Self {
         Self {
-            sheet,
-            state: reading.start(),
-            reading,
-            clips: 0,
-            rust: Rust::start(sheet),
+            list: List::start(reading),
+            rust: Rust::start(reading.sheet()),
         }
     }
 
-    /// What refuses the sheet, or nothing.
-    pub fn refusal(&self) -> &[i64] {
-        self.reading.refusal()
+    /// What the reading has accepted and made.
+    pub fn list(&self) -> &List {
+        &self.list
     }
 
     /// A block. isdb-rs has no output that is too short and refuses no block: it is given the pairs that the call takes.
-    pub fn block(&mut self, values: &[i16], places: usize) -> io::Result<Block> {
-        let block = self.reading.block(&self.state, values, places);
+    pub fn block(&mut self, reading: &Reading, values: &[i16], places: usize) -> io::Result<Block> {
+        let block = self.list.block(reading, values, places);
+        // a block may be given other banks than those in force, and isdb-rs may not
+        self.rust
+            .take_if(|rust| block.taken > 0 && !rust.has_banks_of(reading.sheet()));
         if let Some(rust) = &mut self.rust {
+            let refusal = rust.refusal(reading);
             let (taken, refusal) = match outputs::taken(values.len(), places) {
-                Ok(taken) => (taken, Vec::new()),
+                _ if !refusal.is_empty() => (0, refusal),
+                Ok(taken) => (taken, refusal),
                 Err(number) => (0, vec![number.into()]),
             };
             same("what refuses a block", &refusal, &block.refusal)?;
@@ -50,36 +47,59 @@ impl<'a> Both<'a> {
             same("symbols", &made.symbols, &block.output)?;
             same("the clips of symbols", &made.clips, &block.symbol_clips)?;
         }
-        self.clips += block.clips();
-        self.state = block.state.clone();
         Ok(block)
     }
 
     pub fn state(&self) -> io::Result<&State> {
+        let state = self.list.state();
         if let Some(rust) = &self.rust {
-            let rust = rust.state().numbers();
-            same("the state", &rust, &self.state.numbers())?;
+            same("the state", &rust.state().numbers(), &state.numbers())?;
         }
-        Ok(&self.state)
+        Ok(state)
     }
 
-    pub fn read(&self) -> io::Result<Read> {
-        let read = self.reading.read(&self.state);
+    pub fn read(&self, reading: &Reading) -> io::Result<Read> {
+        let read = reading.read(self.list.state());
         if let Some(rust) = &self.rust {
-            same("what is read", &rust.read(), &read.numbers)?;
+            let refusal = rust.refusal(reading);
+            let numbers = match refusal[..] {
+                [] => rust.read(),
+                _ => [0; 3],
+            };
+            same("what refuses a reading", &refusal, &read.refusal)?;
+            same("what is read", &numbers, &read.numbers)?;
         }
         Ok(read)
     }
 
-    /// isdb-rs once more, on all values of the run in one block: by how many calls they were taken has changed nothing.
-    pub fn end(&self, values: &[i16]) -> io::Result<()> {
-        let Some(mut whole) = Rust::start(self.sheet) else {
+    /// Asking, of which isdb-rs knows nothing.
+    pub fn ask(&self, reading: &Reading) -> Asked {
+        reading.ask(self.list.state())
+    }
+
+    /// Committing. isdb-rs goes on where a start with the new sheet would have come to the same state.
+    pub fn commit(&mut self, reading: &Reading, ticket: u64) -> io::Result<Committed> {
+        let committed = self.list.commit(reading, ticket);
+        if committed.refusal.is_empty() {
+            let pairs = self.list.pairs();
+            let rust = self.rust.take();
+            self.rust = rust.and_then(|rust| rust.retuned(reading.sheet(), &pairs));
+            self.state()?;
+        }
+        Ok(committed)
+    }
+
+    /// isdb-rs once more, on all values of a run under one sheet in one block: by how many calls they were taken has changed
+    /// nothing.
+    pub fn end(&self, reading: &Reading, values: &[i16]) -> io::Result<()> {
+        let Some(mut whole) = Rust::start(reading.sheet()) else {
             return Ok(());
         };
         let made = whole.process(values.as_chunks().0);
-        same("all clips", &[made.clips.iter().sum()], &[self.clips])?;
-        let end = whole.state().numbers();
-        same("the end state", &end, &self.state.numbers())
+        let clips = made.clips.iter().sum();
+        same("all clips", &[clips], &[self.list.clips()])?;
+        let (end, state) = (whole.state(), self.list.state());
+        same("the end state", &end.numbers(), &state.numbers())
     }
 }
 

@@ -4,7 +4,7 @@
 use crate::clips::Clips;
 use crate::reading::{Reading, SYMBOL};
 use crate::sheet::Sheet;
-use crate::state::{Errors, RING, State};
+use crate::state::{Errors, Held, RING, State};
 use isdb_frontend::fixed::{Frontend, Symbol};
 use isdb_frontend::params::LOOP_DELAY;
 
@@ -16,6 +16,10 @@ pub const DELAY: u8 = LOOP_DELAY as u8;
 /// counted. Who asks for neither may run the front end itself.
 pub struct Rust {
     pub front: Frontend,
+    /// What it was started with.
+    sheet: Sheet,
+    /// The fields of the sheet in force.
+    held: Held,
     errors: Errors,
     clips: Clips,
 }
@@ -34,9 +38,47 @@ impl Rust {
         let runs = sheet.judge().is_empty() && sheet.delay == DELAY;
         runs.then(|| Self {
             front: Frontend::new(sheet.params()).expect("a sheet that was judged"),
+            sheet: sheet.clone(),
+            held: sheet.fields(),
             errors: [[0, 0]; RING],
             clips: Clips::start(),
         })
+    }
+
+    /// What it is as soon as a commit of this sheet was accepted behind these pairs, which are all that it was given; or nothing,
+    /// where only the reading goes on. isdb-rs takes no other sheet while it runs. But if the new one differs only in what
+    /// has not been read yet, then a start with it comes to the same state: what it is read by is at first starting alone,
+    /// then each sample, then each symbol, and then each symbol whose errors are due.
+    pub fn retuned(&self, new: &Sheet, pairs: &[[i16; 2]]) -> Option<Self> {
+        let (old, symbols) = (&self.sheet, self.front.symbols());
+        let same = new.period_nominal == old.period_nominal
+            && (pairs.is_empty() || new.nco_step == old.nco_step)
+            && (symbols == 0 || making(new) == making(old))
+            && (symbols <= u64::from(DELAY) || steering(new) == steering(old));
+        if !same {
+            return None;
+        }
+        // only starting reads this one, so that a commit of another one changes nothing any more
+        let mut rust = Self::start(&Sheet {
+            agc_init: old.agc_init,
+            ..new.clone()
+        })?;
+        rust.held = new.fields();
+        rust.process(pairs);
+        Some(rust)
+    }
+
+    /// What refuses a block and a reading under a sheet that was judged: nothing, or 9 under another one than that in force.
+    pub fn refusal(&self, reading: &Reading) -> Vec<i64> {
+        match reading.refusal() {
+            [] if reading.sheet().fields() != self.held => vec![9],
+            refusal => refusal.to_vec(),
+        }
+    }
+
+    /// Whether it runs with these banks.
+    pub fn has_banks_of(&self, sheet: &Sheet) -> bool {
+        self.sheet.banks == sheet.banks
     }
 
     /// Runs a block.
@@ -54,7 +96,7 @@ impl Rust {
     }
 
     pub fn state(&self) -> State {
-        State::of(&self.front, &self.errors)
+        State::of(&self.front, self.held, &self.errors)
     }
 
     /// Period, gain and symbols.
@@ -66,6 +108,22 @@ impl Rust {
             front.symbols() as i64,
         ]
     }
+}
+
+/// What a symbol is made with.
+fn making(sheet: &Sheet) -> (&[Vec<i32>; 3], [u8; 3], u32) {
+    let shifts = [sheet.ted_shift, sheet.bits, sheet.q_shift];
+    (&sheet.banks, shifts, sheet.agc_target)
+}
+
+/// What errors that are due act with, but for the nominal period.
+fn steering(sheet: &Sheet) -> ([i16; 2], [u8; 3], [u32; 2], i32) {
+    (
+        [sheet.kp, sheet.ki],
+        [sheet.kp_shift, sheet.ki_shift, sheet.agc_shift],
+        [sheet.period_min, sheet.period_max],
+        sheet.integrator_max,
+    )
 }
 
 /// The reading, and the state that it handed back last.

@@ -1,7 +1,8 @@
 //! Asks the Rust front end of isdb-rs, text in and text out. README.md beside this folder has the formats.
 
 use oracle::{
-    against, calls, delays, design, floats, generate, leaves, offsets, path, program, sheet, states,
+    against, calls, delays, design, floats, generate, leaves, offsets, path, program, retunes,
+    sheet, states,
 };
 use oracle::{number, usage};
 use std::io::{self, BufRead, BufWriter, Write};
@@ -23,8 +24,10 @@ oracle: asks the Rust front end of isdb-rs
   oracle offsets SEED COUNT           accepted sheets, each with 64 offsets, many of them ties, for replay_calls
   oracle delays SEED                  a small sheet with each delay that its field can hold, for replay_calls
   oracle path KIND SEED COUNT         sheets, each run from its start in blocks, for replay_calls
-  oracle states KIND SEED COUNT       states that no run reaches, with what a block and a reading make of them,
-                                      for replay_calls
+  oracle retunes KIND SEED COUNT      sheets, each run from its start in blocks with other sheets asked for and committed
+                                      between them, for replay_calls
+  oracle states KIND SEED COUNT       states that no run reaches, with what a block, a reading and a retune make of
+                                      them, for replay_calls
   oracle samples STEP                 one of each STEP f32 by their bits, and all that stand out, with the samples
                                       that they become, for replay_floats
   oracle floats KIND SEED COUNT       answers on floats, for replay_floats; KIND is samples, designs, sheets or
@@ -37,7 +40,8 @@ oracle: asks the Rust front end of isdb-rs
 
 KIND is designed, extreme, small, clipping, refused or mixed for sheets, and designed, extreme or isdb-s for a
 recording.
-Sheets of `path` have the delay that isdb-rs was built with, recordings and designs one of 24, and others any.
+Sheets of `path` and `retunes` have the delay that isdb-rs was built with, recordings and designs one of 24, and
+others any.
 ";
 
 fn main() -> ExitCode {
@@ -70,6 +74,9 @@ fn run(words: &[&str], input: impl BufRead, output: &mut impl Write) -> io::Resu
         ["offsets", seed, count] => offsets::write(number(seed)?, number(count)?, output),
         ["delays", seed] => delays::write(number(seed)?, output),
         ["path", kind, seed, count] => path::write(kind, number(seed)?, number(count)?, output),
+        ["retunes", kind, seed, count] => {
+            retunes::write(kind, number(seed)?, number(count)?, output)
+        }
         ["states", kind, seed, count] => states::write(kind, number(seed)?, number(count)?, output),
         ["samples", step] => floats::samples(number(step)?, output),
         ["floats", kind, seed, count] => floats::write(kind, number(seed)?, number(count)?, output),

@@ -1,8 +1,9 @@
 //! Rows of calls, as crates/replay_calls reads them. A row begins with what it is: 0 the fields of a sheet, 1 to 3 its
 //! banks h, g and k, 6 a state, 7 sample values, each in force until it is written again; and the calls with their answers:
-//! 4 judging, 5 the offset of a period, 8 starting, 10 a block with 11 its output, 12 reading, 9 the state in force.
+//! 4 judging, 5 the offset of a period, 8 starting, 10 a block with 11 its output, 12 reading, 13 asking, 14 committing,
+//! 9 the state in force.
 
-use crate::reading::{Block, Read};
+use crate::reading::{Asked, Block, Committed, Read};
 use crate::sheet::{Sheet, joined};
 use crate::state::State;
 use std::io::{self, Write};
@@ -12,33 +13,32 @@ const OUTPUT: usize = 8190;
 
 pub struct Rows<'a, W> {
     output: &'a mut W,
-    /// The rows 0 to 3 that were written last.
-    in_force: [String; 4],
+    /// What the rows 0 to 3 said that were written last.
+    fields: Vec<i64>,
+    banks: [Vec<i32>; 3],
 }
 
 impl<'a, W: Write> Rows<'a, W> {
     pub fn new(output: &'a mut W) -> Self {
         Self {
             output,
-            in_force: Default::default(),
+            fields: Vec::new(),
+            banks: Default::default(),
         }
     }
 
     /// The parts of a sheet that are not in force already.
     pub fn sheet(&mut self, sheet: &Sheet) -> io::Result<()> {
-        self.part(0, joined(&sheet.fields()))?;
+        if self.fields != sheet.fields() {
+            self.fields = sheet.fields().to_vec();
+            self.row(0, &joined(&sheet.fields()))?;
+        }
         for (n, bank) in sheet.banks.iter().enumerate() {
-            self.part(n + 1, joined(bank))?;
+            if self.banks[n] != *bank {
+                self.banks[n].clone_from(bank);
+                self.row(n + 1, &joined(bank))?;
+            }
         }
-        Ok(())
-    }
-
-    fn part(&mut self, kind: usize, numbers: String) -> io::Result<()> {
-        if self.in_force[kind] == numbers {
-            return Ok(());
-        }
-        self.row(kind, &numbers)?;
-        self.in_force[kind] = numbers;
         Ok(())
     }
 
@@ -90,6 +90,21 @@ impl<'a, W: Write> Rows<'a, W> {
         let [period, gain, symbols] = read.numbers;
         let refusal = answer(&read.refusal);
         writeln!(self.output, "12,{period},{gain},{symbols},{refusal}")
+    }
+
+    pub fn asked(&mut self, asked: &Asked) -> io::Result<()> {
+        self.ticket(13, asked.ticket, &asked.refusal)
+    }
+
+    /// Committing with a ticket.
+    pub fn committed(&mut self, ticket: u64, committed: &Committed) -> io::Result<()> {
+        self.ticket(14, ticket, &committed.refusal)
+    }
+
+    /// A ticket is written as the signed number that has its bits.
+    fn ticket(&mut self, kind: usize, ticket: u64, refusal: &[i64]) -> io::Result<()> {
+        let (ticket, refusal) = (ticket as i64, answer(refusal));
+        writeln!(self.output, "{kind},{ticket},{refusal}")
     }
 }
 

@@ -111,10 +111,7 @@ impl State {
             self.waiting,
             self.samples,
         ];
-        own.into_iter()
-            .map(|n| n as i64)
-            .chain(self.held)
-            .collect()
+        own.into_iter().map(|n| n as i64).chain(self.held).collect()
     }
 
     /// Three lines: position of the newest pair, nco, t, v, period, gain accumulator, samples, symbols; then the line's

@@ -152,6 +152,7 @@ fn good_state(r: &mut Random, sheet: &Sheet) -> State {
         oldest: within(r, 0, RING as i64 - 1),
         waiting: symbols.min(sheet.delay.into()),
         samples,
+        held: sheet.fields(),
         line: std::array::from_fn(|_| pair(r, line)),
         errors: std::array::from_fn(|_| pair(r, errors)),
     }
