@@ -3,8 +3,8 @@
 
 mod programs;
 
-use archive_calls::Sheet;
-use huntelm::archive::{BLOCK, BLOCK_TAKEN, STATE, SYMBOL};
+use archive_calls::{Sheet, State};
+use huntelm::archive::{BLOCK, BLOCK_TAKEN, SYMBOL};
 use isdb_frontend::fixed::{Frontend, Symbol};
 use isdb_frontend::params::{Design, Params};
 use oracle::sheet::Sheet as Fields;
@@ -122,8 +122,8 @@ fn block_times(p: &Params, block: usize) -> (f64, f64) {
     let mut front = Frontend::new(p.clone()).expect("an accepted sheet");
     let mut symbols: Vec<Symbol> = Vec::with_capacity(block);
     let sheet = Sheet::from(&Fields::designed(p));
-    let mut state = [0; STATE];
-    assert_eq!(sheet.lent().start(&mut state), 0);
+    let mut state = State::zeros();
+    assert_eq!(sheet.lent().start(state.lent()), 0);
     let mut out = vec![0; SYMBOL * block];
     let mut answer = [0; BLOCK];
     least_each(
@@ -140,7 +140,7 @@ fn block_times(p: &Params, block: usize) -> (f64, f64) {
             let mut left = &values[..];
             while !left.is_empty() {
                 let x = &left[..left.len().min(2 * block)];
-                let refused = sheet.lent().block(&mut state, x, &mut out, &mut answer);
+                let refused = sheet.lent().block(state.lent(), x, &mut out, &mut answer);
                 assert_eq!(refused, 0);
                 left = &left[2 * answer[BLOCK_TAKEN] as usize..];
                 black_box(&out);

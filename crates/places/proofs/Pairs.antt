@@ -1,10 +1,10 @@
 -- Numbers in pairs: how many they make, which, that taking apart and putting together undo each other, and loops that do the one or the other.
 use Prim.Native.Nat.{ℕ, zero, suc, _+_, _*_, _/_, _%_, _≤_, _<_}
 use mathlib.Core.Path.{_≡_, refl, sym, ap, _∙_}
-use mathlib.Core.List.{List, [], _∷_, _++_, append-assoc}
+use mathlib.Core.List.{List, [], _∷_, _++_, append-nil}
 use native.Mathlib.Omega.{arith}
-use lib.ListN.{length, getD, set, take, drop, replicate, length-set, length-drop, length-replicate}
-use lib.Seq.{ext-getD, getD-take, getD-drop, length-take-le, take-all, paste, paste-zero, paste-suc}
+use lib.ListN.{length, getD, set, take, drop, replicate, length-set, length-replicate, drop-of-length-le}
+use lib.Seq.{ext-getD, take-all, paste, paste-zero, paste-suc}
 use lib.IntN.{ℤ, pos}
 use Rattle.fixed.proofs.Filling.{Filled, filled-none, filled-next}
 use Rattle.kinds.specs.Kinds.{at}
@@ -29,33 +29,26 @@ module _ {A : Type 0} (of : ℤ → ℤ → A) where
       let k : 2 * suc n + 1 ≡ suc (suc (2 * n + 1)) = omega arith in
       rw (k, e) (in-pairs-at d l n (omega arith))
 
--- What a loop that reads two places a turn has made after n of them: an array with so many places, of which the first n are filled.
-pub record Taken {A : Type 0} (of : ℤ → ℤ → A) (none : A) (from next count : ℕ) (l : List ℤ) (n : ℕ) (a : List A) : Type 0 where
+-- What a loop that reads two numbers a turn has made after n of them: an array with so many places, of which the first n are filled.
+pub record Taken {A : Type 0} (of : ℤ → ℤ → A) (none : A) (count : ℕ) (l : List ℤ) (n : ℕ) (a : List A) : Type 0 where
   pub turns : n ≤ count
-  pub filled : Filled none (λ m. of (at l (from + 2 * m)) (at l (next + 2 * m))) n (replicate count none) a
+  pub filled : Filled none (λ m. of (at l (2 * m)) (at l (2 * m + 1))) n (replicate count none) a
 
-module _ {A : Type 0} {of : ℤ → ℤ → A} {none : A} {from next count : ℕ} {l : List ℤ} where
-  pub taken-none : Taken of none from next count l 0 (replicate count none)
+module _ {A : Type 0} {of : ℤ → ℤ → A} {none : A} {count : ℕ} {l : List ℤ} where
+  pub taken-none : Taken of none count l 0 (replicate count none)
   taken-none = record { turns = omega arith; filled = filled-none none _ (replicate count none) }
 
-  pub taken-next : {n : ℕ} {a : List A} {x y : ℤ} → Taken of none from next count l n a → n < count → x ≡ at l (from + 2 * n) → y ≡ at l (next + 2 * n)
-      → Taken of none from next count l (n + 1) (set a n (of x y))
-  taken-next {n} {a} t h e k =
+  pub taken-next : {n : ℕ} {a : List A} → Taken of none count l n a → n < count
+      → Taken of none count l (n + 1) (set a n (of (at l (2 * n)) (at l (2 * n + 1))))
+  taken-next {n} {a} t h =
       let long : length a ≡ count = t .filled .long ∙ length-replicate count none in
-      record { turns = omega arith; filled = rw (e, k) (filled-next (t .filled) (omega arith)) }
+      record { turns = omega arith; filled = filled-next (t .filled) (omega arith) }
 
-  pub taken-all : {n : ℕ} {a : List A} → Taken of none from next count l n a → count ≤ n → next ≡ from + 1 → from + 2 * count ≤ length l
-      → a ≡ inPairs of (take (2 * count) (drop from l))
-  taken-all {n} {a} t all e enough =
-      let part : List ℤ = take (2 * count) (drop from l) in
-      let part-long : length part ≡ 2 * count = length-take-le (2 * count) (drop from l) (omega (arith, length-drop from l)) in
-      let of-part : (m : ℕ) → m < 2 * count → at part m ≡ at l (from + m) = λ m h. getD-take (2 * count) (drop from l) m (pos 0) h
-      ∙ getD-drop from l m (pos 0) in
-      let place : (m : ℕ) → next + 2 * m ≡ from + (2 * m + 1) = λ m. omega arith in
+  pub taken-all : {n : ℕ} {a : List A} → Taken of none count l n a → count ≤ n → length l ≡ 2 * count → a ≡ inPairs of l
+  taken-all {n} {a} t all enough =
       let long : length a ≡ count = t .filled .long ∙ length-replicate count none in
-      ext-getD none a (inPairs of part) (omega (arith, in-pairs-long of part))
-      (λ m h. rw (in-pairs-at of none part m (omega arith), of-part (2 * m) (omega arith), of-part (2 * m + 1) (omega arith), ← place m)
-      (t .filled .first m (omega (arith, t .turns))))
+      ext-getD none a (inPairs of l) (omega (arith, in-pairs-long of l))
+      (λ m h. rw (in-pairs-at of none l m (omega arith)) (t .filled .first m (omega (arith, t .turns))))
 
 -- ---- two numbers of each
 
@@ -82,51 +75,52 @@ module _ {A : Type 0} (first second : A → ℤ) where
       rw e (flat-second z xs n (omega arith))
 
   -- two numbers more, behind those that are pasted
-  paste-two : (l : List ℤ) (from next : ℕ) (z : A) (xs : List A) (n : ℕ) → next ≡ from + 1 → n < length xs → from + 2 * length xs ≤ length l
-      → set (set (paste l from (flatPairs first second xs) (2 * n)) (from + 2 * n) (first (getD xs n z))) (next + 2 * n) (second (getD xs n z))
-      ≡ paste l from (flatPairs first second xs) (2 * (n + 1))
-  paste-two l from next z xs n e h enough =
+  paste-two : (l : List ℤ) (z : A) (xs : List A) (n : ℕ) → n < length xs → 2 * length xs ≤ length l
+      → set (set (paste l 0 (flatPairs first second xs) (2 * n)) (2 * n) (first (getD xs n z))) (2 * n + 1) (second (getD xs n z))
+      ≡ paste l 0 (flatPairs first second xs) (2 * (n + 1))
+  paste-two l z xs n h enough =
       let y : List ℤ = flatPairs first second xs in
       let x : A = getD xs n z in
-      let place : next + 2 * n ≡ from + suc (2 * n) = omega arith in
+      let here : 2 * n ≡ 0 + 2 * n = omega arith in
+      let behind : 2 * n + 1 ≡ 0 + suc (2 * n) = omega arith in
       let two : suc (suc (2 * n)) ≡ 2 * (n + 1) = omega arith in
-      let once : List ℤ = paste l from y (suc (2 * n)) in
-      ap (λ (v : ℤ). set (set (paste l from y (2 * n)) (from + 2 * n) v) (next + 2 * n) (second x)) (sym (flat-first z xs n h))
-      ∙ ap (λ (p : List ℤ). set p (next + 2 * n) (second x)) (paste-suc l from y (2 * n) (pos 0) (omega arith) (omega (arith, flat-long xs)))
-      ∙ ap (λ (v : ℤ). set once (next + 2 * n) v) (sym (flat-second z xs n h))
-      ∙ ap (λ (i : ℕ). set once i (at y (suc (2 * n)))) place
-      ∙ paste-suc l from y (suc (2 * n)) (pos 0) (omega arith) (omega (arith, flat-long xs))
-      ∙ ap (λ (m : ℕ). paste l from y m) two
+      let once : List ℤ = paste l 0 y (suc (2 * n)) in
+      ap (λ (v : ℤ). set (set (paste l 0 y (2 * n)) (2 * n) v) (2 * n + 1) (second x)) (sym (flat-first z xs n h))
+      ∙ ap (λ (i : ℕ). set (set (paste l 0 y (2 * n)) i (at y (2 * n))) (2 * n + 1) (second x)) here
+      ∙ ap (λ (p : List ℤ). set p (2 * n + 1) (second x)) (paste-suc l 0 y (2 * n) (pos 0) (omega arith) (omega (arith, flat-long xs)))
+      ∙ ap (λ (v : ℤ). set once (2 * n + 1) v) (sym (flat-second z xs n h))
+      ∙ ap (λ (i : ℕ). set once i (at y (suc (2 * n)))) behind
+      ∙ paste-suc l 0 y (suc (2 * n)) (pos 0) (omega arith) (omega (arith, flat-long xs))
+      ∙ ap (λ (m : ℕ). paste l 0 y m) two
 
--- What a loop that writes two places a turn has made of l after n of them: the numbers of the first n stand in it, and it is as long as it was.
-pub record Put {A : Type 0} (first second : A → ℤ) (from next count : ℕ) (xs : List A) (l : List ℤ) (n : ℕ) (p : List ℤ) : Type 0 where
+-- What a loop that writes two numbers a turn has made of l after n of them: those of the first n stand in it, and it is as long as it was.
+pub record Put {A : Type 0} (first second : A → ℤ) (count : ℕ) (xs : List A) (l : List ℤ) (n : ℕ) (p : List ℤ) : Type 0 where
   pub turns : n ≤ count
   pub long : length p ≡ length l
-  pub pasted : p ≡ paste l from (flatPairs first second xs) (2 * n)
+  pub pasted : p ≡ paste l 0 (flatPairs first second xs) (2 * n)
 
-module _ {A : Type 0} {first second : A → ℤ} {from next count : ℕ} {xs : List A} {l : List ℤ} where
-  pub put-none : Put first second from next count xs l 0 l
-  put-none = record { turns = omega arith; long = refl; pasted = paste-zero l from (flatPairs first second xs) }
+module _ {A : Type 0} {first second : A → ℤ} {count : ℕ} {xs : List A} {l : List ℤ} where
+  pub put-none : Put first second count xs l 0 l
+  put-none = record { turns = omega arith; long = refl; pasted = paste-zero l 0 (flatPairs first second xs) }
 
-  pub put-next : {n : ℕ} {p : List ℤ} (z : A) → Put first second from next count xs l n p → n < count → length xs ≡ count → next ≡ from + 1
-      → from + 2 * count ≤ length l
-      → Put first second from next count xs l (n + 1) (set (set p (from + 2 * n) (first (getD xs n z))) (next + 2 * n) (second (getD xs n z)))
-  put-next {n} {p} z w h k e enough =
+  pub put-next : {n : ℕ} {p : List ℤ} (z : A) → Put first second count xs l n p → n < count → length xs ≡ count → length l ≡ 2 * count
+      → Put first second count xs l (n + 1) (set (set p (2 * n) (first (getD xs n z))) (2 * n + 1) (second (getD xs n z)))
+  put-next {n} {p} z w h k enough =
       let x : A = getD xs n z in
       record {
         turns = omega arith;
-        long = length-set (set p (from + 2 * n) (first x)) (next + 2 * n) (second x) ∙ length-set p (from + 2 * n) (first x) ∙ w .long;
-        pasted = rw (w .pasted) (paste-two first second l from next z xs n e (omega arith) (omega arith));
+        long = length-set (set p (2 * n) (first x)) (2 * n + 1) (second x) ∙ length-set p (2 * n) (first x) ∙ w .long;
+        pasted = rw (w .pasted) (paste-two first second l z xs n (omega arith) (omega arith));
       }
 
-  pub put-all : {n : ℕ} {p : List ℤ} → Put first second from next count xs l n p → count ≤ n → length xs ≡ count
-      → p ≡ take from l ++ (flatPairs first second xs ++ drop (from + 2 * count) l)
-  put-all {n} {p} w all e =
+  pub put-all : {n : ℕ} {p : List ℤ} → Put first second count xs l n p → count ≤ n → length xs ≡ count → length l ≡ 2 * count → p ≡ flatPairs first second xs
+  put-all {n} {p} w all e enough =
       let y : List ℤ = flatPairs first second xs in
       let done : n ≡ count = omega (arith, w .turns) in
+      let none : drop (0 + 2 * count) l ≡ [] = drop-of-length-le l {i = 0 + 2 * count} (omega arith) in
       rw done at (w .pasted)
-      ∙ append-assoc (take from l) (take (2 * count) y) (drop (from + 2 * count) l)
-      ∙ ap (λ (q : List ℤ). take from l ++ (q ++ drop (from + 2 * count) l)) (take-all (2 * count) y (omega (arith, flat-long first second xs)))
+      ∙ ap (λ (q : List ℤ). take (2 * count) y ++ q) none ∙ append-nil (take (2 * count) y)
+      ∙ take-all (2 * count) y (omega (arith, flat-long first second xs))
 
 -- ---- one undoes the other
 

@@ -1,20 +1,19 @@
 -- A sheet, a design and a state that can be read: each of their places has a number of its field's type.
-use Prim.Native.Nat.{ℕ, _+_, _-_, _≤_, _<_}
-use mathlib.Core.Path.{_≡_, refl, ap, subst, _∙_}
+use Prim.Native.Nat.{ℕ, _<_}
+use mathlib.Core.Path.{_≡_, refl, sym, _∙_}
 use mathlib.Core.Bool.{Bool, true, false, _&&_}
-use mathlib.Core.List.{List}
+use mathlib.Core.List.{List, [], _∷_, _++_}
 use native.Mathlib.Omega.{arith}
 use lib.Dec.{eqb}
-use lib.ListN.{length, getD, take, drop, replicate, length-drop, getD-replicate, List·getD-append}
-use lib.Seq.{getD-append-add}
+use lib.ListN.{length, getD, take, drop, length-drop}
 use lib.IntN.{ℤ}
 use lib.Ieee.{Float}
 use borrow.Author.Tests.{eq-eqb, eqb-true}
-use Rattle.kinds.specs.Kinds.{i32, areKinds, placesNumber, KindAt}
+use Rattle.kinds.specs.Kinds.{isKind, areKinds, placesNumber, KindAt}
 use Rattle.places.specs.Sheet.{sheetKinds, sheetNumber}
 use Rattle.places.specs.Rates.{designKinds, designNumber}
-use Rattle.places.specs.States.{firstKinds, stateKinds, stateFits}
-use Rattle.arith.proofs.Both.{and-left, and-right}
+use Rattle.places.specs.States.{Slices, firstKinds, stateKinds, stateFits}
+use Rattle.arith.proofs.Both.{and-left, and-right, and-both}
 use Rattle.kinds.proofs.OfKind.{kind-at, kinds-append}
 use Rattle.kinds.proofs.Readable.{readable-at}
 
@@ -39,35 +38,46 @@ readable-design rates fields e = go (eqb (length rates) 5) refl
 
 -- ---- a state
 
-pub state-long : (l : List ℤ) → stateFits l ≡ true → length l ≡ 186
+-- what slices have that are a state
+pub record ReadableState (l : Slices) : Type 0 where
+  pub long : length (l .places) ≡ 28
+  pub long-line : length (l .line) ≡ 128
+  pub long-errors : length (l .errors) ≡ 48
+  pub kinds : areKinds stateKinds (l .places) ≡ true
+
+pub readable-state : (l : Slices) → stateFits l ≡ true → ReadableState l
 unfolding stateFits
-state-long l e = eqb-true (length l) 186 (and-left (eqb (length l) 186) (areKinds stateKinds l) e)
+readable-state l e =
+    let a : Bool = eqb (length (l .places)) 28 in
+    let b : Bool = eqb (length (l .line)) 128 in
+    let c : Bool = eqb (length (l .errors)) 48 in
+    let d : Bool = areKinds stateKinds (l .places) in
+    let abc = and-left (a && b && c) d e in
+    let ab = and-left (a && b) c abc in
+    record {
+      long = eqb-true _ 28 (and-left a b ab);
+      long-line = eqb-true _ 128 (and-right a b ab);
+      long-errors = eqb-true _ 48 (and-right (a && b) c abc);
+      kinds = and-right (a && b && c) d e;
+    }
 
-state-kinds : (l : List ℤ) → stateFits l ≡ true → areKinds stateKinds l ≡ true
-unfolding stateFits
-state-kinds l e = and-right (eqb (length l) 186) (areKinds stateKinds l) e
+-- 28 places are looked at in two parts: the first ten, and behind them those of a sheet
+first-part : (kinds : List ℕ) (l : List ℤ) (rest : List ℕ) → areKinds (kinds ++ rest) l ≡ true → areKinds kinds l ≡ true
+unfolding areKinds
+first-part [] l rest e = refl
+first-part (kind ∷ kinds) [] rest e = e
+first-part (kind ∷ kinds) (z ∷ l) rest e = and-both (and-left (isKind kind z) _ e) (first-part kinds l rest (and-right (isKind kind z) _ e))
 
--- 186 places are looked at in two parts: the first ten, and those behind them, which are of one kind
-pub state-parts : (l : List ℤ) → length l ≡ 186
-    → stateFits l ≡ (areKinds firstKinds (take 10 l) && areKinds (replicate (length (drop 10 l)) i32) (drop 10 l))
-unfolding stateFits stateKinds
-state-parts l long =
-    let behind : 176 ≡ length (drop 10 l) = omega (arith, length-drop 10 l) in
-    rw (eq-eqb (length l) 186 long) (kinds-append firstKinds (replicate 176 i32) l
-    ∙ ap (λ (n : ℕ). areKinds firstKinds (take 10 l) && areKinds (replicate n i32) (drop 10 l)) behind)
+pub first-fits : {l : Slices} → ReadableState l → areKinds firstKinds (l .places) ≡ true
+first-fits {l} r = first-part firstKinds (l .places) sheetKinds (r .kinds)
 
--- the first ten places
-pub state-at : (l : List ℤ) → stateFits l ≡ true → (n : ℕ) → n < 10 → KindAt (getD firstKinds n 0) l n
-unfolding stateKinds
-state-at l e n h =
-    subst (λ (kind : ℕ). KindAt kind l n) (List·getD-append firstKinds (replicate 176 i32) 0 n h) (kind-at stateKinds l (state-kinds l e) n (omega arith))
+pub first-at : (l : List ℤ) → areKinds firstKinds l ≡ true → (n : ℕ) → n < 10 → KindAt (getD firstKinds n 0) l n
+first-at l e n h = kind-at firstKinds l e n h
 
--- those behind them
-state-pairs : (l : List ℤ) → stateFits l ≡ true → (n : ℕ) → n < 176 → KindAt i32 l (10 + n)
-unfolding stateKinds
-state-pairs l e n h =
-    subst (λ (kind : ℕ). KindAt kind l (10 + n)) (getD-append-add firstKinds (replicate 176 i32) n 0 ∙ getD-replicate 176 n i32 0 h)
-    (kind-at stateKinds l (state-kinds l e) (10 + n) (omega arith))
-
-pub pair-at : (l : List ℤ) → stateFits l ≡ true → (n : ℕ) → 10 ≤ n → n < 186 → KindAt i32 l n
-pair-at l e n h k = let i : 10 + (n - 10) ≡ n = omega arith in subst (KindAt i32 l) i (state-pairs l e (n - 10) (omega arith))
+pub sheet-fits : {l : Slices} → ReadableState l → sheetNumber (drop 10 (l .places)) ≡ 0
+unfolding placesNumber
+sheet-fits {l} r =
+    let behind : length (drop 10 (l .places)) ≡ 18 = omega (arith, length-drop 10 (l .places), r .long) in
+    let each : areKinds sheetKinds (drop 10 (l .places)) ≡ true = and-right (areKinds firstKinds (take 10 (l .places))) _
+    (sym (kinds-append firstKinds sheetKinds (l .places)) ∙ r .kinds) in
+    rw (eq-eqb (length (drop 10 (l .places))) 18 behind, each) refl

@@ -1,16 +1,15 @@
 -- What is claimed of sheets and states as places: crossing changes none, and what was written can be read.
-use Prim.Native.Nat.{ℕ}
 use mathlib.Core.Path.{_≡_}
 use mathlib.Core.Bool.{true}
 use mathlib.Core.List.{List}
-use lib.ListN.{length, getD}
+use lib.ListN.{length}
 use lib.IntN.{ℤ, pos}
 use Rattle.params.specs.declared.Params.{Params}
 use Rattle.state.specs.declared.Frontend.{Frontend}
-use Rattle.state.specs.Start.{ringPlaces, noPair, noPending}
+use Rattle.state.specs.Start.{ringPlaces}
 use Rattle.kinds.specs.Kinds.{u8, u32, i16, i32, i64, count, isKind}
 use Rattle.places.specs.Sheet.{sheetNumber, paramsAt, sheetNumbers}
-use Rattle.places.specs.States.{stateFits, stateOf, numbersOf}
+use Rattle.places.specs.States.{Slices, stateFits, stateOf, numbersOf}
 
 -- ---- sheets
 
@@ -49,8 +48,9 @@ pub record Whole (f : Frontend) : Type 0 where
   pub line : length (f .line) ≡ 64
   pub pending : length (f .pending) ≡ ringPlaces
 
--- Its fields are numbers of their types, and its counts small enough for a place.
+-- Its fields are numbers of their types, those of the held sheet too, and its counts small enough for a place.
 pub record Typed (f : Frontend) : Type 0 where
+  pub sheet : TypedSheet (f .params)
   pub nco : isKind u32 (pos (f .registers .nco)) ≡ true
   pub time : isKind i64 (f .registers .«t_acc») ≡ true
   pub integrator : isKind i64 (f .registers .v) ≡ true
@@ -61,14 +61,10 @@ pub record Typed (f : Frontend) : Type 0 where
   pub oldest : isKind count (pos (f .oldest)) ≡ true
   pub waiting : isKind count (pos (f .waiting)) ≡ true
   pub samples : isKind count (pos (f .samples)) ≡ true
-  pub in-phase : (n : ℕ) → isKind i32 (getD (f .line) n noPair .i) ≡ true
-  pub quadrature : (n : ℕ) → isKind i32 (getD (f .line) n noPair .q) ≡ true
-  pub timing : (n : ℕ) → isKind i32 (getD (f .pending) n noPending .e) ≡ true
-  pub gains : (n : ℕ) → isKind i32 (getD (f .pending) n noPending .err) ≡ true
 
--- A state that is written to places and read again is the same in every field, and its places are those of a state; places of a state that are read and
--- written again hold what they held.
+-- A state that is written to slices and read again is the same in every field, and its slices are a state; slices that are a state and are read and written
+-- again hold what they held. (Of any list of pairs the numbers make these pairs again, so the first asks for nothing.)
 pub record StatesCross : Type 0 where
-  pub back : (f : Frontend) → Whole f → stateOf (numbersOf f) ≡ f
+  pub back : (f : Frontend) → stateOf (numbersOf f) ≡ f
   pub fit : (f : Frontend) → Whole f → Typed f → stateFits (numbersOf f) ≡ true
-  pub again : (l : List ℤ) → stateFits l ≡ true → numbersOf (stateOf l) ≡ l
+  pub again : (l : Slices) → stateFits l ≡ true → numbersOf (stateOf l) ≡ l

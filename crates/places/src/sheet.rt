@@ -4,7 +4,7 @@ use crate::numbers;
 use params::Params;
 ghost use Prim.Native.Nat.{_≤_};
 ghost use mathlib.Core.Path.{_≡_};
-ghost use mathlib.Core.List.{[], _++_};
+ghost use mathlib.Core.List.{_++_};
 ghost use lib.ListN.{length, drop};
 ghost use Rattle.places.specs.Sheet.{sheetKinds, sheetNumber, paramsAt, readSheet, sheetNumbers, sheetWritten};
 
@@ -35,7 +35,7 @@ pub fn sheet_kinds() -> [u8; 18]
 }
 
 // The fields of a sheet that can be read.
-fn params_of(sheet: &[i64]) -> Params
+pub(crate) fn params_of(sheet: &[i64]) -> Params
     requires { ⌜ sheetNumber (now sheet) ≡ 0 ⌝ }
     ensures { λ r. ⌜ r ≡ paramsAt (now (sheet .entry)) ⌝ }
 {
@@ -73,33 +73,8 @@ pub fn read_sheet(sheet: &[i64]) -> ReadSheet
     ReadSheet::Sheet(params_of(sheet))
 }
 
-// What stands in place of a sheet where there is none: 0 in every field.
-pub fn no_sheet() -> Params
-    ensures { λ r. ⌜ r ≡ paramsAt [] ⌝ }
-{
-    Params {
-        taps: 0,
-        nco_step: 0,
-        period_nominal: 0,
-        period_min: 0,
-        period_max: 0,
-        ted_shift: 0,
-        kp: 0,
-        kp_shift: 0,
-        ki: 0,
-        ki_shift: 0,
-        integrator_max: 0,
-        agc_init: 0,
-        agc_target: 0,
-        agc_shift: 0,
-        bits: 0,
-        q_shift: 0,
-        block_log2: 0,
-        delay: 0,
-    }
-}
-
-fn write(p: Params, sheet: &mut [i64])
+// Writes the fields to the first 18 places.
+pub(crate) fn write(p: Params, sheet: &mut [i64])
     requires { ⌜ 18 ≤ length (now sheet) ⌝ }
     ensures { λ _. ⌜ now (sheet .exit) ≡ sheetNumbers p ++ drop 18 (now (sheet .entry)) ⌝ }
 {

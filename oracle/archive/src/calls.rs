@@ -1,41 +1,44 @@
 //! A call with all that it is lent, made through the archive and held against the rules; and the faults that such a call can have.
 
-use crate::lent::{Lent, answered};
+use crate::lent::{Lent, LentState, answered};
 use crate::rules;
 use crate::tally::Tally;
-use archive_calls::Sheet;
-use huntelm::archive::{BLOCK, SHEET, SYMBOL};
+use archive_calls::{Sheet, State};
+use huntelm::archive::{BLOCK, ERRORS, LINE, SHEET, STATE, STATE_SHEET, SYMBOL};
 use oracle::generate;
 use oracle::random::Random;
 use oracle::reading::Reading;
+use oracle::retunes::changes::{At, Change};
 use oracle::sheet::{FIELDS, Sheet as Fields};
-use oracle::state::State;
+use oracle::state::State as Read;
 use oracle::states;
 
 pub struct Call {
     pub sheet: Sheet,
-    pub state: Vec<i64>,
+    pub state: State,
     pub values: Vec<i16>,
     /// Places for symbols.
     pub places: usize,
-    /// Places for the answer of a block, of a reading or of an offset.
+    /// Places for the answer of a block, of a reading, of an ask or of an offset.
     pub room: usize,
     pub period: u32,
+    pub ticket: u64,
 }
 
 impl Call {
     /// A call of a state with a few pairs, in which nothing is wrong.
-    pub fn good(sheet: &Sheet, state: &State, pairs: u64, r: &mut Random) -> Self {
+    pub fn good(sheet: &Sheet, state: &Read, pairs: u64, r: &mut Random) -> Self {
         let values: Vec<i16> = (0..2 * pairs).map(|_| r.next() as i16).collect();
         let enough = rules::enough(&values);
         let some = SYMBOL + r.below(enough as u64 + 1) as usize;
         Self {
             sheet: sheet.clone(),
-            state: state.numbers(),
+            state: state.into(),
             places: r.pick(&[some, some, enough, enough, enough + 1, enough + 45]),
             values,
             room: any_room(r),
             period: state.period as u32,
+            ticket: state.symbols as u64,
         }
     }
 
@@ -50,17 +53,17 @@ impl Call {
         self.start(reading, tally, r);
         self.offset(reading, tally, r);
         self.read(reading, tally, r);
+        self.ask(reading, tally, r);
+        self.commit(reading, tally, r);
         self.block(reading, tally, r);
     }
 
     fn start(&self, reading: Result<&Reading, u32>, tally: &mut Tally, r: &mut Random) {
-        let mut state = Lent::any(self.state.len(), r);
-        let number = self.sheet.lent().start(state.places());
+        let mut state = LentState::any(&self.state, r);
+        let number = self.sheet.lent().start(state.writable());
         tally.refusal(number);
-        tally.answer(
-            "starting",
-            answered(number, &state, rules::start(reading, self)),
-        );
+        let right = rules::start(reading, self);
+        tally.answer("starting", state.answered(number, right.as_ref()));
     }
 
     pub fn offset(&self, reading: Result<&Reading, u32>, tally: &mut Tally, r: &mut Random) {
@@ -72,11 +75,37 @@ impl Call {
     }
 
     pub fn read(&self, reading: Result<&Reading, u32>, tally: &mut Tally, r: &mut Random) {
+        let state = LentState::holding(&self.state, r);
         let mut answer = Lent::any(self.room, r);
-        let number = self.sheet.lent().read(&self.state, answer.places());
+        let number = self.sheet.lent().read(state.readable(), answer.places());
         tally.refusal(number);
-        let right = rules::read(reading, self);
-        tally.answer("reading", answered(number, &answer, right));
+        let right = answered(number, &answer, rules::read(reading, self));
+        tally.answer("reading", right && state.is_untouched());
+    }
+
+    pub fn ask(&self, reading: Result<&Reading, u32>, tally: &mut Tally, r: &mut Random) {
+        let state = LentState::holding(&self.state, r);
+        let mut answer = Lent::any(self.room, r);
+        let number = self.sheet.lent().ask(state.readable(), answer.places());
+        tally.refusal(number);
+        let right = answered(number, &answer, rules::ask(reading, self));
+        tally.answer("asking", right && state.is_untouched());
+    }
+
+    /// The state after the commit, where it was not refused.
+    pub fn commit(
+        &self,
+        reading: Result<&Reading, u32>,
+        tally: &mut Tally,
+        r: &mut Random,
+    ) -> Option<Read> {
+        let mut state = LentState::holding(&self.state, r);
+        let number = state.commit(&self.sheet, self.ticket);
+        tally.refusal(number);
+        let right = rules::commit(reading, self);
+        let after = right.as_ref().map(State::from).map_err(|number| *number);
+        tally.answer("committing", state.answered(number, after.as_ref()));
+        right.ok()
     }
 
     /// The state after the block, where it was not refused.
@@ -85,12 +114,12 @@ impl Call {
         reading: Result<&Reading, u32>,
         tally: &mut Tally,
         r: &mut Random,
-    ) -> Option<State> {
-        let mut state = Lent::holding(&self.state, r);
+    ) -> Option<Read> {
+        let mut state = LentState::holding(&self.state, r);
         let mut output = Lent::any(self.places, r);
         let mut answer = Lent::any(self.room, r);
         let number = self.sheet.lent().block(
-            state.places(),
+            state.writable(),
             &self.values,
             output.places(),
             answer.places(),
@@ -104,7 +133,7 @@ impl Call {
                 None
             }
             Ok(block) => {
-                let right = state.begins_with(&block.state.numbers())
+                let right = state.holds(&State::from(&block.state))
                     && output.begins_with(&block.output)
                     && answer.begins_with(&rules::block_answer(&block));
                 tally.block(self.values.len() / 2, &block);
@@ -117,19 +146,19 @@ impl Call {
     // ---- faults
 
     /// One fault or several, so that which of them is told can be seen.
-    pub fn spoil(&mut self, fields: &Fields, state: &State, r: &mut Random) {
+    pub fn spoil(&mut self, fields: &Fields, state: &Read, r: &mut Random) {
         for _ in 0..1 + r.below(3) {
-            match r.below(12) {
+            match r.below(16) {
                 0 => self.spoil_length(r),
                 1 => self.spoil_field(r),
                 2 => self.sheet = Sheet::from(&generate::spoiled(r, fields.clone())),
                 3 => self.spoil_bank(r),
-                4 => self.state.resize(r.pick(&[0, 1, 185, 187, 372]), 0),
+                4 => self.spoil_slice(r),
                 5 => self.spoil_place(r),
                 6 => {
                     let mut state = state.clone();
                     states::spoil(r, fields, &mut state);
-                    self.state = state.numbers();
+                    self.state = State::from(&state);
                 }
                 7 => self.values.push(r.next() as i16),
                 8 => {
@@ -138,7 +167,10 @@ impl Call {
                 }
                 9 => self.room = r.below(BLOCK as u64) as usize,
                 10 => self.period = r.pick(&[fields.period_min - 1, fields.period_max + 1]),
-                _ => self.spoil_count(r),
+                11 => self.spoil_count(r),
+                12 => self.spoil_held(&states::any_held(r, fields, state)),
+                13 => self.ticket = states::any_ticket(r, state),
+                _ => self.other_sheet(fields, state, r),
             }
         }
     }
@@ -165,17 +197,59 @@ impl Call {
         bank.resize(r.pick(&[0, long.saturating_sub(1), long + 1, long / 2]), 0);
     }
 
+    /// A slice of the state with numbers too few or too many.
+    fn spoil_slice(&mut self, r: &mut Random) {
+        let mut long = |long: usize| r.pick(&[0, 1, long - 1, long + 1, 2 * long]);
+        let (places, line, errors) = (long(STATE), long(LINE), long(ERRORS));
+        match r.below(4) {
+            0 => self.state.places.resize(places, 0),
+            1 => self.state.line.resize(line, 0),
+            2 => self.state.errors.resize(errors, 0),
+            _ => {
+                self.state.places.resize(places, 0);
+                self.state.line.resize(line, 0);
+                self.state.errors.resize(errors, 0);
+            }
+        }
+    }
+
     /// A place of the state outside the type of its field.
     fn spoil_place(&mut self, r: &mut Random) {
-        let at = r.pick(&[0, 3, 4, 5, 6, 7, 8, 9, 10, 137, 138, 185]);
-        let outside: &[i64] = match at {
-            0 | 3 | 4 => &[-1, 1 << 32, i64::MIN, i64::MAX],
-            5..10 => &[-1, i64::MIN],
-            _ => &[-(1 << 31) - 1, 1 << 31, i64::MIN, i64::MAX],
+        let held = STATE_SHEET + r.below(SHEET as u64) as usize;
+        let at = r.pick(&[0, 3, 4, 5, 6, 7, 8, 9, held, held, held, held]);
+        let (low, high) = match at {
+            0 | 3 | 4 => (0, u32::MAX.into()),
+            1..STATE_SHEET => (0, i64::MAX),
+            _ => FIELDS[at - STATE_SHEET],
         };
-        if let Some(place) = self.state.get_mut(at) {
-            *place = r.pick(outside);
+        let below = [low - 1, i64::MIN];
+        // no number is above the largest count
+        let above = match high {
+            i64::MAX => below,
+            _ => [high + 1, i64::MAX],
+        };
+        let outside = [below, above];
+        if let Some(place) = self.state.places.get_mut(at) {
+            *place = r.pick(outside.as_flattened());
         }
+    }
+
+    /// Another held sheet.
+    fn spoil_held(&mut self, held: &[i64]) {
+        if let Some(places) = self.state.places.get_mut(STATE_SHEET..STATE) {
+            places.copy_from_slice(held);
+        }
+    }
+
+    /// Another sheet than the one that the state holds, as a retune has it.
+    fn other_sheet(&mut self, fields: &Fields, state: &Read, r: &mut Random) {
+        let at = At {
+            sheet: fields,
+            sheets: std::slice::from_ref(fields),
+            state,
+        };
+        let change = r.pick(&Change::ALL);
+        self.sheet = Sheet::from(&at.changed(change, r));
     }
 
     /// As many samples as can be counted, or almost as many, before the block: before all its pairs, or before those that it has
@@ -183,7 +257,7 @@ impl Call {
     fn spoil_count(&mut self, r: &mut Random) {
         let pairs = self.values.len() / 2;
         let more = r.pick(&[pairs, pairs.min(self.places / SYMBOL)]) as i64;
-        if let Some(samples) = self.state.get_mut(9) {
+        if let Some(samples) = self.state.places.get_mut(9) {
             *samples = i64::MAX - (more + r.between(-2, 2)).max(0);
         }
     }

@@ -1,7 +1,8 @@
-//! What the archive is lent here: sheets and designs of any lengths, also wrong ones, and the calls of bindings/rust on them.
+//! What the archive is lent here: sheets, states and designs of any lengths, also wrong ones, and the calls of bindings/rust on them.
 
-use huntelm::archive;
+use huntelm::archive::{self, ERRORS, LINE, STATE};
 use oracle::sheet::Sheet as Fields;
+use oracle::state::State as Read;
 
 /// A sheet with its banks h, g and k.
 #[derive(Debug, Clone, PartialEq)]
@@ -27,6 +28,44 @@ impl Sheet {
             h,
             g,
             k,
+        }
+    }
+}
+
+/// A state's three slices.
+#[derive(Debug, Clone, PartialEq)]
+pub struct State {
+    pub places: Vec<i64>,
+    pub line: Vec<i32>,
+    pub errors: Vec<i32>,
+}
+
+impl From<&Read> for State {
+    fn from(state: &Read) -> Self {
+        let numbers = |pairs: &[[i128; 2]]| pairs.iter().flatten().map(|n| *n as i32).collect();
+        Self {
+            places: state.places(),
+            line: numbers(&state.line),
+            errors: numbers(&state.errors),
+        }
+    }
+}
+
+impl State {
+    /// As long as a state is, and nothing in it.
+    pub fn zeros() -> Self {
+        Self {
+            places: vec![0; STATE],
+            line: vec![0; LINE],
+            errors: vec![0; ERRORS],
+        }
+    }
+
+    pub fn lent(&mut self) -> archive::StateMut<'_> {
+        archive::StateMut {
+            places: &mut self.places,
+            line: &mut self.line,
+            errors: &mut self.errors,
         }
     }
 }

@@ -9,8 +9,8 @@ mod rules;
 mod run;
 mod tally;
 
-use oracle::generate;
 use oracle::random::Random;
+use oracle::{generate, retunes};
 use run::Run;
 use std::process::ExitCode;
 use tally::Tally;
@@ -37,13 +37,17 @@ fn main() -> ExitCode {
     ExitCode::SUCCESS
 }
 
-/// A sheet, a run on it, and changed states after it.
+/// A sheet, a run on it, with retunes or under the one sheet, and changed states after it.
 fn one_run(tally: &mut Tally, r: &mut Random) {
     let kind = r.pick(&["designed", "designed", "extreme", "small", "clipping"]);
-    let (fields, mut samples) =
-        generate::sheet_with_samples(kind, r).expect("a kind of sheet that there is");
+    let is_retuned = r.one_in(2);
+    let sheet = match is_retuned {
+        true => retunes::sheet_with_samples(kind, r),
+        false => generate::sheet_with_samples(kind, r),
+    };
+    let (fields, mut samples) = sheet.expect("a kind of sheet that there is");
     let pairs = r.pick(&[100, 2000, 10_000, 30_000]);
-    let mut run = Run::start(&fields, tally, r);
+    let mut run = Run::start(fields, is_retuned, tally, r);
     run.go_on(pairs, &mut samples);
     run.change();
 }

@@ -1,12 +1,14 @@
 //! What a call of the archive is to answer, whatever it is lent: the reading of docs/RULES.md, behind the archive's own rules for places
-//! (crates/calls). A sheet that cannot be read is 18 or 19, then come 1 to 8 and 29; places that are those of no state are 9.
+//! (RULES 8). A sheet that cannot be read is 18 or 19, then come 1 to 8 and 29; slices that are those of no state are 9.
 
 use crate::calls::Call;
-use archive_calls::Sheet;
-use huntelm::archive::{BLOCK, BLOCK_CLIPS, BLOCK_COUNT, BLOCK_TAKEN, STATE, SYMBOL};
+use archive_calls::{Sheet, State};
+use huntelm::archive::{
+    BLOCK, BLOCK_CLIPS, BLOCK_COUNT, BLOCK_TAKEN, ERRORS, LINE, STATE, STATE_SHEET, SYMBOL,
+};
 use oracle::reading::{Block, Reading};
 use oracle::sheet::{FIELDS, Sheet as Fields};
-use oracle::state::State;
+use oracle::state::State as Read;
 
 /// The number of a refusal.
 type Number = u32;
@@ -37,20 +39,23 @@ pub fn accepted(sheet: &Sheet) -> Result<Fields, Number> {
     }
 }
 
-/// The state that places say, where each is within the type of its field.
-pub fn state_of(places: &[i64]) -> Option<State> {
+/// The state that three slices say, where they are as long as a state's and each place is within the type of its field.
+pub fn state_of(state: &State) -> Option<Read> {
     const U32: (i64, i64) = (0, u32::MAX as i64);
     const I64: (i64, i64) = (i64::MIN, i64::MAX);
     const COUNT: (i64, i64) = (0, i64::MAX);
-    const I32: (i64, i64) = (i32::MIN as i64, i32::MAX as i64);
+    let places = &state.places;
+    if [places.len(), state.line.len(), state.errors.len()] != [STATE, LINE, ERRORS] {
+        return None;
+    }
     let own = [U32, I64, I64, U32, U32, COUNT, COUNT, COUNT, COUNT, COUNT];
-    let types = own.into_iter().chain([I32; STATE - 10]);
     let within = |(v, (low, high)): (&i64, (i64, i64))| (low..=high).contains(v);
-    if places.len() != STATE || !places.iter().zip(types).all(within) {
+    if !places.iter().zip(own.into_iter().chain(FIELDS)).all(within) {
         return None;
     }
     let place = |n: usize| i128::from(places[n]);
-    Some(State {
+    let pair = |numbers: &[i32], n: usize| [2 * n, 2 * n + 1].map(|n| numbers[n].into());
+    Some(Read {
         nco: place(0),
         t_acc: place(1),
         v: place(2),
@@ -61,18 +66,19 @@ pub fn state_of(places: &[i64]) -> Option<State> {
         oldest: place(7),
         waiting: place(8),
         samples: place(9),
-        line: std::array::from_fn(|n| [place(10 + 2 * n), place(11 + 2 * n)]),
-        errors: std::array::from_fn(|n| [place(138 + 2 * n), place(139 + 2 * n)]),
+        held: std::array::from_fn(|n| places[STATE_SHEET + n]),
+        line: std::array::from_fn(|n| pair(&state.line, n)),
+        errors: std::array::from_fn(|n| pair(&state.errors, n)),
     })
 }
 
-/// The numbers that a fresh state has.
-pub fn start(reading: Result<&Reading, Number>, call: &Call) -> Result<Vec<i64>, Number> {
-    let fresh = reading?.start().numbers();
-    if call.state.len() == STATE {
-        Ok(fresh)
-    } else {
-        Err(9)
+/// The fresh state.
+pub fn start(reading: Result<&Reading, Number>, call: &Call) -> Result<State, Number> {
+    let fresh = State::from(&reading?.start());
+    let state = &call.state;
+    match [state.places.len(), state.line.len(), state.errors.len()] {
+        [STATE, LINE, ERRORS] => Ok(fresh),
+        _ => Err(9),
     }
 }
 
@@ -106,6 +112,29 @@ pub fn read(reading: Result<&Reading, Number>, call: &Call) -> Result<[i64; 3], 
         Some(number) => Err(*number as Number),
         None if call.room < 3 => Err(11),
         None => Ok(read.numbers),
+    }
+}
+
+/// The ticket. What slices that are no state are refused by comes before all that asking refuses of a state.
+pub fn ask(reading: Result<&Reading, Number>, call: &Call) -> Result<[i64; 1], Number> {
+    let reading = reading?;
+    let state = state_of(&call.state).ok_or(9u32)?;
+    let asked = reading.ask(&state);
+    match asked.refusal.first() {
+        Some(number) => Err(*number as Number),
+        None if call.room < 1 => Err(11),
+        None => Ok([asked.ticket as i64]),
+    }
+}
+
+/// The state with the sheet in it.
+pub fn commit(reading: Result<&Reading, Number>, call: &Call) -> Result<Read, Number> {
+    let reading = reading?;
+    let state = state_of(&call.state).ok_or(9u32)?;
+    let committed = reading.commit(&state, call.ticket);
+    match committed.refusal.first() {
+        Some(number) => Err(*number as Number),
+        None => Ok(committed.state),
     }
 }
 

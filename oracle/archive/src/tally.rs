@@ -18,6 +18,8 @@ pub struct Tally {
     all_clipped: u64,
     /// Blocks that took fewer pairs than they were offered.
     cut: u64,
+    /// Commits that were accepted in a run.
+    pub commits: u64,
     /// How many calls were refused by which number.
     refused: BTreeMap<u32, u64>,
     /// States that were changed between two calls.
@@ -60,8 +62,8 @@ impl Tally {
         let of = |(number, calls): (&u32, &u64)| format!("{calls} by {number}");
         let refused: Vec<String> = self.refused.iter().map(of).collect();
         println!(
-            "{} compared, {} differed; {} samples, {} symbols, {} of them with no clip and {} with 12, {} blocks cut by their output, {} changed states, \
-             calls refused {}",
+            "{} compared, {} differed; {} samples, {} symbols, {} of them with no clip and {} with 12, {} blocks cut by their output, {} commits accepted in \
+             runs, {} changed states, calls refused {}",
             self.compared,
             self.differed,
             self.samples,
@@ -69,6 +71,7 @@ impl Tally {
             self.unclipped,
             self.all_clipped,
             self.cut,
+            self.commits,
             self.changed,
             refused.join(", ")
         );

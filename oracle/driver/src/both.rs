@@ -77,13 +77,19 @@ impl Both {
         reading.ask(self.list.state())
     }
 
+    /// Whether isdb-rs, if it runs beside the reading, does so behind a commit of this sheet.
+    pub fn can_follow(&self, reading: &Reading) -> bool {
+        let rust = self.rust.as_ref();
+        rust.is_none_or(|rust| rust.can_follow(reading.sheet()))
+    }
+
     /// Committing. isdb-rs goes on where a start with the new sheet would have come to the same state.
     pub fn commit(&mut self, reading: &Reading, ticket: u64) -> io::Result<Committed> {
         let committed = self.list.commit(reading, ticket);
-        if committed.refusal.is_empty() {
-            let pairs = self.list.pairs();
-            let rust = self.rust.take();
-            self.rust = rust.and_then(|rust| rust.retuned(reading.sheet(), &pairs));
+        if let Some(rust) = &self.rust
+            && committed.refusal.is_empty()
+        {
+            self.rust = rust.followed(reading.sheet(), &self.list.pairs());
             self.state()?;
         }
         Ok(committed)

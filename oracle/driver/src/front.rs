@@ -20,6 +20,7 @@ pub struct Rust {
     sheet: Sheet,
     /// The fields of the sheet in force.
     held: Held,
+    samples: usize,
     errors: Errors,
     clips: Clips,
 }
@@ -40,27 +41,31 @@ impl Rust {
             front: Frontend::new(sheet.params()).expect("a sheet that was judged"),
             sheet: sheet.clone(),
             held: sheet.fields(),
+            samples: 0,
             errors: [[0, 0]; RING],
             clips: Clips::start(),
         })
     }
 
-    /// What it is as soon as a commit of this sheet was accepted behind these pairs, which are all that it was given; or nothing,
-    /// where only the reading goes on. isdb-rs takes no other sheet while it runs. But if the new one differs only in what
-    /// has not been read yet, then a start with it comes to the same state: what it is read by is at first starting alone,
-    /// then each sample, then each symbol, and then each symbol whose errors are due.
-    pub fn retuned(&self, new: &Sheet, pairs: &[[i16; 2]]) -> Option<Self> {
-        let (old, symbols) = (&self.sheet, self.front.symbols());
-        let same = new.period_nominal == old.period_nominal
-            && (pairs.is_empty() || new.nco_step == old.nco_step)
-            && (symbols == 0 || making(new) == making(old))
-            && (symbols <= u64::from(DELAY) || steering(new) == steering(old));
-        if !same {
+    /// Whether there is a front end that has come to the same state and goes on under this sheet. isdb-rs takes no other sheet while
+    /// it runs; but if the new one differs only in what nothing has read so far, a start with it would have led here. Starting
+    /// reads first, then each sample, then each symbol, and then each symbol at which errors act.
+    pub fn can_follow(&self, new: &Sheet) -> bool {
+        let (old, front) = (&self.sheet, &self.front);
+        new.period_nominal == old.period_nominal
+            && (self.samples == 0 || new.nco_step == old.nco_step)
+            && (front.symbols() == 0 || making(new) == making(old))
+            && (front.symbols() <= DELAY.into() || steering(new) == steering(old))
+    }
+
+    /// That front end, behind a commit that was accepted, given all pairs so far.
+    pub fn followed(&self, new: &Sheet, pairs: &[[i16; 2]]) -> Option<Self> {
+        if !self.can_follow(new) {
             return None;
         }
-        // only starting reads this one, so that a commit of another one changes nothing any more
+        // only starting reads this one, so that another one is never read
         let mut rust = Self::start(&Sheet {
-            agc_init: old.agc_init,
+            agc_init: self.sheet.agc_init,
             ..new.clone()
         })?;
         rust.held = new.fields();
@@ -86,6 +91,7 @@ impl Rust {
         let before = self.front.symbols() as usize;
         let mut symbols = Vec::new();
         self.front.process(pairs, &mut symbols);
+        self.samples += pairs.len();
         for (j, symbol) in (before..).zip(&symbols) {
             self.errors[j % RING] = [symbol.e.into(), symbol.err.into()];
         }

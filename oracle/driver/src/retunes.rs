@@ -11,13 +11,13 @@ use crate::random::Random;
 use crate::reading::{Asked, Reading, SYMBOL};
 use crate::rows::Rows;
 use crate::run::Run;
-use crate::sheet::DELAYS;
+use crate::sheet::{DELAYS, Sheet};
 use changes::{At, Change, liven};
 use std::io::{self, Write};
 
 /// Pairs of a list at most; of a small or a clipping sheet's there are far fewer, so that they can be stored.
 const PAIRS: u64 = 1000;
-const FEW: u64 = 120;
+const FEW: u64 = 160;
 
 pub fn write(kind: &str, seed: u64, count: u64, output: &mut impl Write) -> io::Result<()> {
     let mut r = Random::new(seed);
@@ -29,25 +29,30 @@ pub fn write(kind: &str, seed: u64, count: u64, output: &mut impl Write) -> io::
     Ok(())
 }
 
+/// A sheet with samples, such that its loops move, as a rule.
+pub fn sheet_with_samples(kind: &str, r: &mut Random) -> io::Result<(Sheet, Samples)> {
+    let (mut sheet, samples) = generate::sheet_with_samples(kind, r)?;
+    // a signal moves them by itself, and samples of one level are for a gain that stays
+    let moves = matches!(samples, Samples::Signal { .. });
+    let keeps_gain = matches!(samples, Samples::Level { .. });
+    if !moves && sheet.judge().is_empty() && !r.one_in(4) {
+        liven(&mut sheet, keeps_gain, r);
+    }
+    Ok((sheet, samples))
+}
+
 /// A list under a sheet of the delay that isdb-rs has; a delay that is refused stays.
 fn list(kind: &str, rows: &mut Rows<impl Write>, r: &mut Random) -> io::Result<()> {
-    let (mut sheet, mut samples) = generate::sheet_with_samples(kind, r)?;
+    let (mut sheet, mut samples) = sheet_with_samples(kind, r)?;
     if DELAYS.contains(&sheet.delay) {
         sheet.delay = DELAY;
     }
-    let is_accepted = sheet.judge().is_empty();
-    // a signal moves its loops by itself, and samples of one level are for a gain that stays
-    let keeps_gain = matches!(samples, Samples::Level { .. });
-    let moves = matches!(samples, Samples::Signal { .. });
-    if is_accepted && !moves && !r.one_in(4) {
-        liven(&mut sheet, keeps_gain, r);
-    }
+    let force = Reading::owning(sheet);
     let pairs = match kind {
-        _ if !is_accepted => 1 + r.below(12),
+        _ if !force.refusal().is_empty() => 1 + r.below(12),
         "small" | "clipping" => FEW / 2 + r.below(FEW / 2),
         _ => PAIRS / 4 + r.below(3 * PAIRS / 4),
     };
-    let force = Reading::owning(sheet);
     let run = Run::start(&force, rows)?;
     let mut list = Retunes {
         run,
@@ -56,7 +61,9 @@ fn list(kind: &str, rows: &mut Rows<impl Write>, r: &mut Random) -> io::Result<(
         pairs,
         left: pairs,
         accepts_from: r.pick(&[0, 0, pairs / 8, pairs / 3]),
+        follows: r.one_in(4),
         changes: Vec::new(),
+        drawn: 0,
         ways: Vec::new(),
         asked: 0,
         r,
@@ -117,8 +124,12 @@ struct Retunes<'a, 'b, 'c, W> {
     left: u64,
     /// Before so many pairs no commit has the right ticket, so that isdb-rs stays beside the reading.
     accepts_from: u64,
+    /// Nor ever one behind which isdb-rs could not stay.
+    follows: bool,
     /// Each of them comes once before one comes again.
     changes: Vec<Change>,
+    /// How many came.
+    drawn: usize,
     ways: Vec<Way>,
     /// The ticket that was given last.
     asked: u64,
@@ -130,7 +141,7 @@ impl<W: Write> Retunes<'_, '_, '_, W> {
     fn go_on(&mut self) -> io::Result<()> {
         self.retunes()?;
         while self.left > 0 {
-            let size = self.r.below(self.pairs / 5 + 2);
+            let size = self.r.below(self.pairs / 4 + 2);
             self.feed(size)?;
             // anywhere, right before a sample with a symbol, or right behind it
             match self.r.below(4) {
@@ -140,6 +151,10 @@ impl<W: Write> Retunes<'_, '_, '_, W> {
             }
             self.retunes()?;
         }
+        // behind the last sample, until there was a sheet of every change
+        while self.drawn < Change::ALL.len() {
+            self.retune()?;
+        }
         self.run.read(&self.force)?;
         self.run.tell_state()?;
         self.run.list().check(self.r)
@@ -147,7 +162,7 @@ impl<W: Write> Retunes<'_, '_, '_, W> {
 
     /// Several at one count of samples, as long as no block comes between.
     fn retunes(&mut self) -> io::Result<()> {
-        for _ in 0..1 + self.r.below(5) {
+        for _ in 0..1 + self.r.below(4) {
             self.retune()?;
         }
         Ok(())
@@ -158,7 +173,6 @@ impl<W: Write> Retunes<'_, '_, '_, W> {
         match draw(&mut self.ways, &Way::ALL, self.r) {
             Way::Ask => {
                 self.ask(&new)?;
-                self.run.tell_state()?;
             }
             Way::Commit => {
                 self.commit(&new, self.ticket())?;
@@ -208,6 +222,7 @@ impl<W: Write> Retunes<'_, '_, '_, W> {
     // ---- retunes
 
     fn new_sheet(&mut self) -> Reading<'static> {
+        self.drawn += 1;
         let change = draw(&mut self.changes, &Change::ALL, self.r);
         Reading::owning(at(&self.force, &self.run).changed(change, self.r))
     }
@@ -215,7 +230,7 @@ impl<W: Write> Retunes<'_, '_, '_, W> {
     fn ask(&mut self, new: &Reading) -> io::Result<Asked> {
         let asked = self.run.ask(new)?;
         self.asked = asked.ticket;
-        if self.r.one_in(6) {
+        if self.r.one_in(4) {
             self.run.tell_state()?;
         }
         Ok(asked)
@@ -247,14 +262,14 @@ impl<W: Write> Retunes<'_, '_, '_, W> {
         if wrong == right { above } else { wrong }
     }
 
-    /// Whether no commit may be accepted yet.
-    fn is_early(&self) -> bool {
-        self.pairs - self.left < self.accepts_from
+    /// Whether a commit may be accepted.
+    fn may_accept(&self, new: &Reading) -> bool {
+        self.pairs - self.left >= self.accepts_from && (!self.follows || self.run.can_follow(new))
     }
 
     /// Commits, goes on under the new sheet where that is accepted, and says whether it was.
     fn commit(&mut self, new: &Reading<'static>, ticket: u64) -> io::Result<bool> {
-        let ticket = match self.is_early() && ticket == self.ticket() {
+        let ticket = match ticket == self.ticket() && !self.may_accept(new) {
             true => self.wrong_ticket(),
             false => ticket,
         };
@@ -269,11 +284,11 @@ impl<W: Write> Retunes<'_, '_, '_, W> {
     }
 
     /// Commits with the ticket that asking gave. RULES 5.3: it holds until a symbol is made, whatever was called in between.
-    fn commit_asked(&mut self, new: &Reading<'static>, asked: &Asked) -> io::Result<bool> {
-        let holds = asked.refusal.is_empty() && asked.ticket == self.ticket() && !self.is_early();
-        let is_accepted = self.commit(new, asked.ticket)?;
-        match is_accepted == holds {
-            true => Ok(is_accepted),
+    fn commit_asked(&mut self, new: &Reading<'static>, asked: &Asked) -> io::Result<()> {
+        let holds = asked.ticket == self.ticket() && asked.refusal.is_empty();
+        let holds = holds && self.may_accept(new);
+        match self.commit(new, asked.ticket)? == holds {
+            true => Ok(()),
             false => Err(io::Error::other(
                 "RULES 5.3 does not hold of the reading: how long a ticket is good",
             )),
@@ -308,13 +323,20 @@ impl<W: Write> Retunes<'_, '_, '_, W> {
 
     // ---- blocks
 
-    /// A few pairs under another sheet, and then under the sheet in force: the first block is refused, unless it has the held
-    /// fields.
+    /// A few pairs under other sheets, and then under the sheet in force. All but the last block are refused, unless they have the
+    /// held fields.
     fn block_under(&mut self, new: &Reading) -> io::Result<()> {
         let size = self.r.below(4);
         let values = self.next_values(size);
-        let taken = self.run.block(new, &values, SYMBOL * size as usize)?;
-        let rest = &values[2 * taken..];
+        let change = self
+            .r
+            .pick(&[Change::OneField, Change::Delay, Change::Many]);
+        let other = at(&self.force, &self.run).changed(change, self.r);
+        let mut rest = &values[..];
+        for reading in [new, &Reading::owning(other)] {
+            let taken = self.run.block(reading, rest, SYMBOL * rest.len() / 2)?;
+            rest = &rest[2 * taken..];
+        }
         self.run.offer(&self.force, rest, Outputs::Enough, self.r)
     }
 

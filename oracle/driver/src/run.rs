@@ -98,6 +98,11 @@ impl<'a, 'b, W: Write> Run<'a, 'b, W> {
         Ok(asked)
     }
 
+    /// Whether isdb-rs goes on beside the reading behind a commit of this sheet, if it runs beside it now.
+    pub fn can_follow(&self, reading: &Reading) -> bool {
+        self.both.can_follow(reading)
+    }
+
     /// Commits, and says whether that was accepted.
     pub fn commit(&mut self, reading: &Reading, ticket: u64) -> io::Result<bool> {
         let committed = self.both.commit(reading, ticket)?;

@@ -1,12 +1,13 @@
-//! States that no run reaches: good ones with anything in the line and the queue, and ones that are broken next to a
-//! bound. isdb-rs cannot be given a state, so the answers are those of the reading of docs/RULES.md.
+//! States that no run reaches: good ones with anything in the line and the queue, ones that are broken next to a bound, and ones
+//! that hold any sheet. isdb-rs cannot be given a state, so the answers are those of the reading of docs/RULES.md.
 
 use crate::generate::{self, ends};
 use crate::random::Random;
 use crate::reading::{Reading, SYMBOL};
+use crate::retunes::changes::{At, Change};
 use crate::rows::Rows;
-use crate::sheet::{DELAYS, Sheet};
-use crate::state::{RING, State};
+use crate::sheet::{DELAYS, FIELDS, Sheet};
+use crate::state::{Held, RING, State};
 use std::io::{self, Write};
 
 /// States under the banks of a sheet before there are others.
@@ -17,6 +18,8 @@ const LAST: i64 = i64::MAX;
 /// States of a kind of sheets. The banks are shared by some; each state has a delay of its own.
 pub fn write(kind: &str, seed: u64, count: u64, output: &mut impl Write) -> io::Result<()> {
     let mut r = Random::new(seed);
+    // retunes have numbers of their own, so that the blocks and readings of a seed stay as they are stored
+    let mut of_retunes = Random::new(!seed);
     let mut rows = Rows::new(output);
     let mut sheet = Sheet::default();
     for n in 0..count {
@@ -27,7 +30,11 @@ pub fn write(kind: &str, seed: u64, count: u64, output: &mut impl Write) -> io::
         }
         rows.sheet(&sheet)?;
         let state = any_state(&mut r, &sheet);
-        calls(&mut rows, &Reading::of(&sheet), state, &mut r)?;
+        let reading = Reading::of(&sheet);
+        calls(&mut rows, &reading, state, &mut r)?;
+        if of_retunes.one_in(3) {
+            retune(&mut rows, &reading, &mut of_retunes)?;
+        }
     }
     Ok(())
 }
@@ -50,6 +57,67 @@ fn calls(
     }
     rows.state(&state)?;
     rows.read(&reading.read(&state))
+}
+
+/// A state that holds any sheet, the sheet asked for and committed, and what a reading and a block make of it then.
+fn retune(rows: &mut Rows<impl Write>, reading: &Reading, r: &mut Random) -> io::Result<()> {
+    let mut state = any_state(r, reading.sheet());
+    state.held = any_held(r, reading.sheet(), &state);
+    rows.give(&state)?;
+    rows.asked(&reading.ask(&state))?;
+    rows.read(&reading.read(&state))?;
+    for _ in 0..r.pick(&[1, 2]) {
+        let ticket = any_ticket(r, &state);
+        let committed = reading.commit(&state, ticket);
+        rows.committed(ticket, &committed)?;
+        state = committed.state;
+    }
+    if r.one_in(2) {
+        rows.state(&state)?;
+    }
+    rows.read(&reading.read(&state))?;
+    let values = any_values(r);
+    let places = any_places(r, values.len() / 2, countable(&state));
+    rows.values(&values)?;
+    rows.block(places, &reading.block(&state, &values, places))
+}
+
+/// The fields of the sheet itself, of one next to it, of one that no judging accepts, or nothing but zeros.
+pub fn any_held(r: &mut Random, sheet: &Sheet, state: &State) -> Held {
+    let any = FIELDS.map(|(low, high)| ends(r, low, high));
+    match r.below(8) {
+        0 => sheet.fields(),
+        1 => [0; FIELDS.len()],
+        2 => any,
+        3 => Sheet {
+            taps: sheet.taps,
+            delay: sheet.delay,
+            ..Sheet::of(&any)
+        }
+        .fields(),
+        _ => {
+            let sheets = std::slice::from_ref(sheet);
+            let change = r.pick(&Change::ALL);
+            At {
+                sheet,
+                sheets,
+                state,
+            }
+            .changed(change, r)
+            .fields()
+        }
+    }
+}
+
+/// The right ticket more often than not, or one next to it, the number of something else, or any.
+pub fn any_ticket(r: &mut Random, state: &State) -> u64 {
+    let (right, samples) = (state.symbols as u64, state.samples as u64);
+    match r.below(8) {
+        0 => right.wrapping_add_signed(r.pick(&[-1, 1])),
+        1 => r.pick(&[0, samples, u64::MAX, right ^ 1 << 32, right ^ 1 << 63]),
+        2 => r.next(),
+        _ => right,
+    }
 }
 
 /// A short block, now and then an empty one, or one of an odd number of values.

@@ -87,7 +87,7 @@ impl At<'_> {
             Change::PeriodAt => self.period_at(&mut sheet, r),
             Change::PeriodOutside => self.period_outside(&mut sheet, r),
             Change::IntegratorAt => sheet.integrator_max = self.least_bound() + r.pick(&[0, 0, 1]),
-            Change::IntegratorOutside => sheet.integrator_max = self.least_bound() - 1,
+            Change::IntegratorOutside => self.integrator_outside(&mut sheet, r),
             Change::Agc => agc(&mut sheet, r),
             Change::Way => way(&mut sheet, r),
             Change::OneField => sheet = one_field(&sheet, r),
@@ -128,6 +128,14 @@ impl At<'_> {
         }
     }
 
+    /// An integrator of 0 is within every bound; then the period does for it.
+    fn integrator_outside(&self, sheet: &mut Sheet, r: &mut Random) {
+        match self.least_bound() {
+            0 => self.period_outside(sheet, r),
+            least => sheet.integrator_max = least - 1,
+        }
+    }
+
     /// The least bound that the integrator is within.
     fn least_bound(&self) -> i32 {
         ((self.state.v.abs() + 0xffff) >> 16) as i32
@@ -160,7 +168,7 @@ impl At<'_> {
     pub fn faults(&self, mut sheet: Sheet, r: &mut Random) -> Sheet {
         match r.below(4) {
             0 => self.period_outside(&mut sheet, r),
-            1 => sheet.integrator_max = self.least_bound() - 1,
+            1 => self.integrator_outside(&mut sheet, r),
             _ => (),
         }
         match r.below(4) {
@@ -239,10 +247,11 @@ fn way(sheet: &mut Sheet, r: &mut Random) {
     }
 }
 
-/// A field other than the taps and the delay, one up or down.
+/// A field other than the taps and the delay, one up or down; often kp, or block_log2, which nothing reads.
 fn one_field(sheet: &Sheet, r: &mut Random) -> Sheet {
     let mut fields = sheet.fields();
-    let at = r.between(1, FIELDS.len() as i64 - 2) as usize;
+    let any = r.between(1, FIELDS.len() as i64 - 2) as usize;
+    let at = r.pick(&[6, 16, any, any]);
     let (low, high) = FIELDS[at];
     fields[at] = match fields[at] + r.pick(&[-1, 1]) {
         value if value < low => low + 1,
@@ -311,7 +320,8 @@ fn judged_field(mut sheet: Sheet, r: &mut Random) -> Sheet {
 }
 
 /// A sheet whose loops move, so that what a commit may not touch shows in the symbols behind it: one to two samples a symbol,
-/// room on both sides of the nominal period, errors of middling size, and gains for them. A gain that is to stay stays.
+/// room on both sides of the nominal period, errors of middling size, and gains for them. A gain that is to stay stays, with
+/// the banks that it is for.
 pub fn liven(sheet: &mut Sheet, keeps_gain: bool, r: &mut Random) {
     let nominal = r.between(LOW + (1 << 18), 1 << 25);
     let room = 1 << r.between(12, 23);
@@ -321,9 +331,29 @@ pub fn liven(sheet: &mut Sheet, keeps_gain: bool, r: &mut Random) {
     sheet.integrator_max = r.pick(&[1 << 8, 1 << 14, 1 << 18, (1 << 22) - 1]);
     sheet.ted_shift = r.between(6, 14) as u8;
     set_gains(sheet, r);
-    if !keeps_gain {
-        sheet.agc_init = r.between(1 << 14, 1 << 20) as u32;
-        sheet.agc_target = 1 << r.between(10, 18);
-        sheet.agc_shift = r.between(0, 4) as u8;
+    if keeps_gain {
+        return;
+    }
+    sheet.agc_init = r.between(1 << 14, 1 << 20) as u32;
+    sheet.agc_target = 1 << r.between(10, 18);
+    sheet.agc_shift = r.between(0, 4) as u8;
+    if !r.one_in(3) {
+        thin_out(sheet);
+    }
+}
+
+/// Leaves in each row of the banks what is largest there: banks are the longest rows of a list, and are written many times.
+fn thin_out(sheet: &mut Sheet) {
+    for row in sheet
+        .banks
+        .iter_mut()
+        .flat_map(|bank| bank.chunks_mut(sheet.taps as usize))
+    {
+        let most = row.iter().map(|c| c.unsigned_abs()).max();
+        for c in row {
+            if Some(c.unsigned_abs()) < most {
+                *c = 0;
+            }
+        }
     }
 }

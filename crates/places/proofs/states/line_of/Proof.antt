@@ -1,16 +1,14 @@
--- `places::states::line_of` meets its contract: after n turns the first n places of the array hold the pairs of the state's places from 10 on.
--- The whole is what those places make pair by pair (Pairs, `Taken`).
+-- `places::states::line_of` meets its contract: after n turns the first n places of the array hold the pairs that the first 2 n numbers make.
+-- The whole is what all of them make pair by pair (Pairs, `Taken`).
 use Prim.Native.Nat.{_+_, _*_, _-_}
-use mathlib.Core.Path.{refl}
 use native.Mathlib.Omega.{arith}
-use lib.IntN.{ℤ}
+use lib.ListN.{getD}
+use lib.IntN.{ℤ, pos}
 use mir.Syntax.{w32}
-use denote.Ref.{now}
 use borrow.Author.Needs.{needs}
 use Rattle.arith.proofs.Bits.{held}
 use Rattle.state.specs.declared.Pair.{Pair}
 use Rattle.state.specs.Start.{noPair}
-use Rattle.places.proofs.Readable.{state-long, pair-at}
 use Rattle.places.proofs.Pairs.{Taken, taken-none, taken-next, taken-all}
 use Rattle.places.proofs.states.line_of.Statement.{statement}
 use Rattle.places.proofs.states.line_of.Tie as tie
@@ -19,32 +17,34 @@ abbrev pair : ℤ → ℤ → Pair
 pair a b = record { i = a; q = b }
 
 abbrev Inv-loop : tie.InvT-loop
-Inv-loop state line₀ n₀ line n = Taken pair noPair 10 11 64 state n line
+Inv-loop numbers line₀ n₀ line n = Taken pair noPair 64 numbers n line
 
 abbrev μ-loop : tie.MeasureT-loop
-μ-loop state line₀ n₀ line n = 64 - n
+μ-loop numbers line₀ n₀ line n = 64 - n
 
 loop-holds : tie.Need-loop-holds Inv-loop μ-loop
 loop-holds c = taken-none
 
-mul-i32-at : tie.Need-mul-i32-at Inv-loop μ-loop
-mul-i32-at c = search needs
+mul-t6 : tie.Need-mul-t6 Inv-loop μ-loop
+mul-t6 c = search needs
 
-add-i32-at : tie.Need-add-i32-at Inv-loop μ-loop
-add-i32-at c = search needs
+mul-t7 : tie.Need-mul-t7 Inv-loop μ-loop
+mul-t7 c = search needs
 
-i32-at-requires : tie.Need-i32-at-requires Inv-loop μ-loop
-i32-at-requires c κs = pair-at (now (c .before .before .args .state)) (c .before .before .pre) (10 + 2 * c .before .loop .n) (omega arith) (omega arith)
+shared-slice-copy-out-t9 : tie.Need-shared-slice-copy-out-t9 Inv-loop μ-loop
+shared-slice-copy-out-t9 c = omega arith
 
-mul-i32-at-2 : tie.Need-mul-i32-at-2 Inv-loop μ-loop
-mul-i32-at-2 c = search needs
+mul-t10 : tie.Need-mul-t10 Inv-loop μ-loop
+mul-t10 c = search needs
 
-add-i32-at-2 : tie.Need-add-i32-at-2 Inv-loop μ-loop
-add-i32-at-2 c = search needs
+add-t11 : tie.Need-add-t11 Inv-loop μ-loop
+add-t11 c = search needs
 
-i32-at-requires-2 : tie.Need-i32-at-requires-2 Inv-loop μ-loop
-i32-at-requires-2 c κs = pair-at (now (c .before .before .before .args .state)) (c .before .before .before .pre) (11 + 2 * c .before .before .loop .n)
-    (omega arith) (omega arith)
+mul-t12 : tie.Need-mul-t12 Inv-loop μ-loop
+mul-t12 c = search needs
+
+shared-slice-copy-out-t14 : tie.Need-shared-slice-copy-out-t14 Inv-loop μ-loop
+shared-slice-copy-out-t14 c = omega arith
 
 mul-line : tie.Need-mul-line Inv-loop μ-loop
 mul-line c = search needs
@@ -60,15 +60,13 @@ loop-less c = search needs
 
 loop-again : tie.Need-loop-again Inv-loop μ-loop
 loop-again c =
-    let a = c .before .i32-at in
-    let b = c .i32-at2 in
-    simp (held w32 (a .result) (a .ok), held w32 (b .result) (b .ok))
-    (taken-next (c .before .before .before .loop .inv) (omega arith) (a .ensures) (b .ensures))
+    let l = c .before .before .before .loop in
+    let numbers = c .before .before .before .before .args .numbers .now in
+    simp (held w32 (getD numbers (2 * l .n) (pos 0)) (c .before .t9 .given), held w32 (getD numbers (2 * l .n + 1) (pos 0)) (c .t14 .given))
+    (taken-next (l .inv) (omega arith))
 
 returns : tie.Need-returns Inv-loop μ-loop
-returns c =
-    let s = c .before .before in
-    taken-all (c .before .loop .inv) (omega arith) refl (omega (arith, state-long (s .args .state .now) (s .pre)))
+returns c = taken-all (c .before .loop .inv) (omega arith) (c .before .before .pre)
 
 pub line-of-spec : {M : Type 1} → statement M
 line-of-spec =
@@ -77,12 +75,13 @@ line-of-spec =
     Inv-loop
     μ-loop
     loop-holds
-    mul-i32-at
-    add-i32-at
-    i32-at-requires
-    mul-i32-at-2
-    add-i32-at-2
-    i32-at-requires-2
+    mul-t6
+    mul-t7
+    shared-slice-copy-out-t9
+    mul-t10
+    add-t11
+    mul-t12
+    shared-slice-copy-out-t14
     mul-line
     array-set-from-line
     add-n

@@ -1,6 +1,6 @@
 -- `places::states::write_first` meets its contract: the casts lose nothing, since the counts are below 2^63, and ten stores from place 0 on leave the ten
 -- numbers in front of what stood behind them (`lib.Seq`, `sets-eq`).
-use Prim.Native.Nat.{_^_, _<_}
+use Prim.Native.Nat.{_^_, _≤_, _<_}
 use mathlib.Core.Path.{_≡_}
 use mathlib.Core.List.{List, [], _∷_, _++_}
 use native.Mathlib.Omega.{arith}
@@ -22,59 +22,59 @@ use Rattle.places.proofs.states.write_first.Tie as tie
 small : (s : tie.Start) → Placed (s .args .f)
 small s = placed (s .args .f) (s .pre .1)
 
-cast-state : tie.Need-cast-state
-cast-state c = search needs
+cast-places : tie.Need-cast-places
+cast-places c = search needs
 
-slice-set-from-state : tie.Need-slice-set-from-state
-slice-set-from-state c = search needs
+slice-set-from-places : tie.Need-slice-set-from-places
+slice-set-from-places c = search needs
 
 slice-set-from-t : tie.Need-slice-set-from-t
-slice-set-from-t c = search needs
+slice-set-from-t c = simp length-set (omega arith)
 
 slice-set-from-v : tie.Need-slice-set-from-v
-slice-set-from-v c = search needs
+slice-set-from-v c = simp length-set (omega arith)
 
-cast-state-2 : tie.Need-cast-state-2
-cast-state-2 c = search needs
+cast-places-2 : tie.Need-cast-places-2
+cast-places-2 c = search needs
 
-slice-set-from-state-2 : tie.Need-slice-set-from-state-2
-slice-set-from-state-2 c = search needs
+slice-set-from-places-2 : tie.Need-slice-set-from-places-2
+slice-set-from-places-2 c = simp length-set (omega arith)
 
-cast-state-3 : tie.Need-cast-state-3
-cast-state-3 c = search needs
+cast-places-3 : tie.Need-cast-places-3
+cast-places-3 c = search needs
 
-slice-set-from-state-3 : tie.Need-slice-set-from-state-3
-slice-set-from-state-3 c = simp length-set (omega (arith, c .before .before .before .before .before .before .pre .0))
+slice-set-from-places-3 : tie.Need-slice-set-from-places-3
+slice-set-from-places-3 c = simp length-set (omega (arith, c .before .before .before .before .before .before .pre .0))
 
-cast-state-4 : tie.Need-cast-state-4
-cast-state-4 c = let p = small (c .before .before .before .before .before .before .before) in sfit (omega arith)
+cast-places-4 : tie.Need-cast-places-4
+cast-places-4 c = let p = small (c .before .before .before .before .before .before .before) in sfit (omega arith)
 
-slice-set-from-state-4 : tie.Need-slice-set-from-state-4
-slice-set-from-state-4 c = simp length-set (omega (arith, c .before .before .before .before .before .before .before .pre .0))
+slice-set-from-places-4 : tie.Need-slice-set-from-places-4
+slice-set-from-places-4 c = simp length-set (omega (arith, c .before .before .before .before .before .before .before .pre .0))
 
-cast-state-5 : tie.Need-cast-state-5
-cast-state-5 c = let p = small (c .before .before .before .before .before .before .before .before) in sfit (omega arith)
+cast-places-5 : tie.Need-cast-places-5
+cast-places-5 c = let p = small (c .before .before .before .before .before .before .before .before) in sfit (omega arith)
 
-slice-set-from-state-5 : tie.Need-slice-set-from-state-5
-slice-set-from-state-5 c = simp length-set (omega (arith, c .before .before .before .before .before .before .before .before .pre .0))
+slice-set-from-places-5 : tie.Need-slice-set-from-places-5
+slice-set-from-places-5 c = simp length-set (omega (arith, c .before .before .before .before .before .before .before .before .pre .0))
 
-cast-state-6 : tie.Need-cast-state-6
-cast-state-6 c = let p = small (c .before .before .before .before .before .before .before .before .before) in sfit (omega arith)
+cast-places-6 : tie.Need-cast-places-6
+cast-places-6 c = let p = small (c .before .before .before .before .before .before .before .before .before) in sfit (omega arith)
 
-slice-set-from-state-6 : tie.Need-slice-set-from-state-6
-slice-set-from-state-6 c = simp length-set (omega (arith, c .before .before .before .before .before .before .before .before .before .pre .0))
+slice-set-from-places-6 : tie.Need-slice-set-from-places-6
+slice-set-from-places-6 c = simp length-set (omega (arith, c .before .before .before .before .before .before .before .before .before .pre .0))
 
-cast-state-7 : tie.Need-cast-state-7
-cast-state-7 c = let p = small (c .before .before .before .before .before .before .before .before .before .before) in sfit (omega arith)
+cast-places-7 : tie.Need-cast-places-7
+cast-places-7 c = let p = small (c .before .before .before .before .before .before .before .before .before .before) in sfit (omega arith)
 
-slice-set-from-state-7 : tie.Need-slice-set-from-state-7
-slice-set-from-state-7 c = simp length-set (omega (arith, c .before .before .before .before .before .before .before .before .before .before .pre .0))
+slice-set-from-places-7 : tie.Need-slice-set-from-places-7
+slice-set-from-places-7 c = simp length-set (omega (arith, c .before .before .before .before .before .before .before .before .before .before .pre .0))
 
-cast-state-8 : tie.Need-cast-state-8
-cast-state-8 c = let p = small (c .before .before .before .before .before .before .before .before .before .before .before) in sfit (omega arith)
+cast-places-8 : tie.Need-cast-places-8
+cast-places-8 c = let p = small (c .before .before .before .before .before .before .before .before .before .before .before) in sfit (omega arith)
 
-slice-set-from-state-8 : tie.Need-slice-set-from-state-8
-slice-set-from-state-8 c = simp length-set (omega (arith, c .before .before .before .before .before .before .before .before .before .before .before .pre .0))
+slice-set-from-places-8 : tie.Need-slice-set-from-places-8
+slice-set-from-places-8 c = simp length-set (omega (arith, c .before .before .before .before .before .before .before .before .before .before .before .pre .0))
 
 same-length : tie.Need-same-length
 same-length c = simp length-set
@@ -82,7 +82,7 @@ same-length c = simp length-set
 -- what ten stores leave, once the casts are read back
 stored : (f : Frontend) (l : List ℤ) → mag (f .registers .«t_acc») < 2 ^ 63 → mag (f .registers .v) < 2 ^ 63 → Fits w32 (f .registers .nco)
     → Fits w32 (f .registers .period)
-    → Fits w32 (f .registers .«gain_acc») → Placed f → length l ≡ 186
+    → Fits w32 (f .registers .«gain_acc») → Placed f → 10 ≤ length l
     → sets l 0 (toZ w64 (f .registers .nco) ∷ toZ w64 (ofZ w64 (f .registers .«t_acc»)) ∷ toZ w64 (ofZ w64 (f .registers .v)) ∷ toZ w64 (f .registers .period)
     ∷ toZ w64 (f .registers .«gain_acc») ∷ toZ w64 (f .registers .symbols) ∷ toZ w64 (f .head) ∷ toZ w64 (f .oldest) ∷ toZ w64 (f .waiting) ∷ toZ w64
     (f .samples) ∷ [])
@@ -107,7 +107,7 @@ returns c =
     let s = k .before .before .before .before in
     let told = k .before .struct-told2 .given in
     let known = c .struct-known8 .given in
-    stored (s .args .f) (s .args .state .now) (search told depth 40) (search told depth 40) (search known depth 40) (search known depth 40)
+    stored (s .args .f) (s .args .places .now) (search told depth 40) (search told depth 40) (search known depth 40) (search known depth 40)
     (search known depth 40)
     (small s) (s .pre .0)
 
@@ -115,23 +115,23 @@ pub write-first-spec : {M : Type 1} → statement M
 write-first-spec =
     tie.close
     (tie.spec
-    cast-state
-    slice-set-from-state
+    cast-places
+    slice-set-from-places
     slice-set-from-t
     slice-set-from-v
-    cast-state-2
-    slice-set-from-state-2
-    cast-state-3
-    slice-set-from-state-3
-    cast-state-4
-    slice-set-from-state-4
-    cast-state-5
-    slice-set-from-state-5
-    cast-state-6
-    slice-set-from-state-6
-    cast-state-7
-    slice-set-from-state-7
-    cast-state-8
-    slice-set-from-state-8
+    cast-places-2
+    slice-set-from-places-2
+    cast-places-3
+    slice-set-from-places-3
+    cast-places-4
+    slice-set-from-places-4
+    cast-places-5
+    slice-set-from-places-5
+    cast-places-6
+    slice-set-from-places-6
+    cast-places-7
+    slice-set-from-places-7
+    cast-places-8
+    slice-set-from-places-8
     same-length
     returns)

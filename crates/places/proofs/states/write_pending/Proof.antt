@@ -1,28 +1,22 @@
--- `places::states::write_pending` meets its contract: after n turns the numbers of the first n pairs stand in the state's places from 138 on.
--- What is before them and behind them is as it was (Pairs, `Put`).
+-- `places::states::write_pending` meets its contract: after n turns the numbers of the first n pairs stand in front, and the others are as they were.
+-- In the end all numbers are those of the pairs (Pairs, `Put`).
 use Prim.Native.Nat.{_-_}
-use mathlib.Core.Path.{refl, ap, _∙_}
-use mathlib.Core.List.{List, _++_, append-nil}
 use native.Mathlib.Omega.{arith}
-use lib.ListN.{getD, take, length-set, drop-of-length-le}
-use lib.IntN.{ℤ}
-use mir.Syntax.{w32, w64}
-use mir.Val.{SFits}
+use lib.ListN.{getD, length-set}
+use mir.Syntax.{w32}
 use borrow.Author.Needs.{needs}
-use Rattle.arith.proofs.Bits.{widened}
+use Rattle.arith.proofs.Bits.{held}
 use Rattle.registers.specs.declared.Pending.{Pending}
-use Rattle.state.specs.Start.{ringPlaces, noPending}
-use Rattle.places.specs.States.{pendingNumbers}
+use Rattle.state.specs.Start.{noPending}
 use Rattle.places.proofs.Pairs.{Put, put-none, put-next, put-all}
-use Rattle.places.proofs.Widths.{widens-32}
 use Rattle.places.proofs.states.write_pending.Statement.{statement}
 use Rattle.places.proofs.states.write_pending.Tie as tie
 
 abbrev Inv-loop : tie.InvT-loop
-Inv-loop state₀ pending n₀ state n = Put (λ (x : Pending). x .e) (λ (x : Pending). x .err) 138 139 ringPlaces pending state₀ n state
+Inv-loop numbers₀ pending n₀ numbers n = Put (λ (x : Pending). x .e) (λ (x : Pending). x .err) 24 pending numbers₀ n numbers
 
 abbrev μ-loop : tie.MeasureT-loop
-μ-loop state₀ pending n₀ state n = ringPlaces - n
+μ-loop numbers₀ pending n₀ numbers n = 24 - n
 
 loop-holds : tie.Need-loop-holds Inv-loop μ-loop
 loop-holds c = put-none
@@ -33,35 +27,26 @@ mul-x c = search needs
 array-copy-out-x : tie.Need-array-copy-out-x Inv-loop μ-loop
 array-copy-out-x c = search needs
 
-cast-state : tie.Need-cast-state Inv-loop μ-loop
-cast-state c = search (widens-32, c .struct-told .given) depth 40
+mul-e : tie.Need-mul-e Inv-loop μ-loop
+mul-e c = search needs
 
-mul-state : tie.Need-mul-state Inv-loop μ-loop
-mul-state c = search needs
+mul-e-2 : tie.Need-mul-e-2 Inv-loop μ-loop
+mul-e-2 c = search needs
 
-add-state : tie.Need-add-state Inv-loop μ-loop
-add-state c = search needs
+slice-set-from-e : tie.Need-slice-set-from-e Inv-loop μ-loop
+slice-set-from-e c = omega arith
 
-mul-state-2 : tie.Need-mul-state-2 Inv-loop μ-loop
-mul-state-2 c = search needs
+mul-err : tie.Need-mul-err Inv-loop μ-loop
+mul-err c = search needs
 
-slice-set-from-state : tie.Need-slice-set-from-state Inv-loop μ-loop
-slice-set-from-state c = omega arith
+add-err : tie.Need-add-err Inv-loop μ-loop
+add-err c = search needs
 
-cast-state-2 : tie.Need-cast-state-2 Inv-loop μ-loop
-cast-state-2 c = search (widens-32, c .struct-told2 .given) depth 40
+mul-err-2 : tie.Need-mul-err-2 Inv-loop μ-loop
+mul-err-2 c = search needs
 
-mul-t13 : tie.Need-mul-t13 Inv-loop μ-loop
-mul-t13 c = search needs
-
-add-t12 : tie.Need-add-t12 Inv-loop μ-loop
-add-t12 c = search needs
-
-mul-t7 : tie.Need-mul-t7 Inv-loop μ-loop
-mul-t7 c = search needs
-
-slice-set-from-state-2 : tie.Need-slice-set-from-state-2 Inv-loop μ-loop
-slice-set-from-state-2 c = simp length-set (omega arith)
+slice-set-from-err : tie.Need-slice-set-from-err Inv-loop μ-loop
+slice-set-from-err c = simp length-set (omega arith)
 
 add-n : tie.Need-add-n Inv-loop μ-loop
 add-n c = search needs
@@ -71,22 +56,16 @@ loop-less c = search needs
 
 loop-again : tie.Need-loop-again Inv-loop μ-loop
 loop-again c =
-    let l = c .before .before .before .before .before .before .loop in
-    let x = getD (c .before .before .before .before .before .before .before .args .t1) (l .n) noPending in
-    let in-e : SFits w32 (x .e) = record { sfits = search (c .struct-told2 .given) depth 40 } in
-    let in-err : SFits w32 (x .err) = record { sfits = search (c .struct-told2 .given) depth 40 } in
-    simp (widened w64 tt in-e, widened w64 tt in-err) (put-next noPending (l .inv) (omega arith) (search needs) refl (omega arith))
+    let s = c .before .before .before .before .before in
+    let l = c .before .before .before .before .loop in
+    let x = getD (s .args .t1) (l .n) noPending in
+    simp (held w32 (x .e) (search needs), held w32 (x .err) (search needs)) (put-next noPending (l .inv) (omega arith) (search needs) (s .pre))
 
 same-length : tie.Need-same-length Inv-loop μ-loop
 same-length c = c .before .loop .inv .long
 
 returns : tie.Need-returns Inv-loop μ-loop
-returns c =
-    let a = c .before .before .args in
-    let y = pendingNumbers (a .t1) in
-    put-all (c .before .loop .inv) (omega arith) (search needs)
-    ∙ ap (λ (rest : List ℤ). take 138 (a .state .now) ++ (y ++ rest)) (drop-of-length-le (a .state .now) {i = 186} (omega arith))
-    ∙ ap (λ (rest : List ℤ). take 138 (a .state .now) ++ rest) (append-nil y)
+returns c = put-all (c .before .loop .inv) (omega arith) (search needs) (c .before .before .pre)
 
 pub write-pending-spec : {M : Type 1} → statement M
 write-pending-spec =
@@ -97,16 +76,13 @@ write-pending-spec =
     loop-holds
     mul-x
     array-copy-out-x
-    cast-state
-    mul-state
-    add-state
-    mul-state-2
-    slice-set-from-state
-    cast-state-2
-    mul-t13
-    add-t12
-    mul-t7
-    slice-set-from-state-2
+    mul-e
+    mul-e-2
+    slice-set-from-e
+    mul-err
+    add-err
+    mul-err-2
+    slice-set-from-err
     add-n
     loop-less
     loop-again
