@@ -1,6 +1,7 @@
 // The front end for C and Rust: crates/calls, and float samples of crates/input, under the names and with the arguments that include/huntelm.h declares.
 ghost use mathlib.Core.Path.{_≡_};
-ghost use Rattle.calls.specs.Calls.{judgeNumber, startAnswer, blockAnswer, readAnswer, offsetAnswer, designAnswer};
+ghost use Rattle.places.specs.States.{slices};
+ghost use Rattle.calls.specs.Calls.{judgeNumber, startAnswer, blockAnswer, readAnswer, askAnswer, commitAnswer, offsetAnswer, designAnswer};
 ghost use Rattle.input.specs.Input.{sampleAnswer};
 
 #[no_mangle]
@@ -17,11 +18,14 @@ pub extern "C" fn huntelm_start(
     g: &[i32],
     k: &[i32],
     state: &mut [i64],
+    line: &mut [i32],
+    errors: &mut [i32],
 ) -> u32
-    ensures { λ r. ⌜ record { number = r; places = now (state .exit) }
-        ≡ startAnswer (now (sheet .entry)) (now (h .entry)) (now (g .entry)) (now (k .entry)) (now (state .entry)) ⌝ }
+    ensures { λ r. ⌜ record { number = r; state = slices (now (state .exit)) (now (line .exit)) (now (errors .exit)) }
+        ≡ startAnswer (now (sheet .entry)) (now (h .entry)) (now (g .entry)) (now (k .entry))
+        (slices (now (state .entry)) (now (line .entry)) (now (errors .entry))) ⌝ }
 {
-    calls::start(sheet, h, g, k, state)
+    calls::start(sheet, h, g, k, state, line, errors)
 }
 
 #[no_mangle]
@@ -31,15 +35,22 @@ pub extern "C" fn huntelm_block(
     g: &[i32],
     k: &[i32],
     state: &mut [i64],
+    line: &mut [i32],
+    errors: &mut [i32],
     values: &[i16],
     out: &mut [i64],
     answer: &mut [i64],
 ) -> u32
-    ensures { λ r. ⌜ record { number = r; state = now (state .exit); output = now (out .exit); answer = now (answer .exit) }
+    ensures { λ r. ⌜ record {
+          number = r;
+          state = slices (now (state .exit)) (now (line .exit)) (now (errors .exit));
+          output = now (out .exit);
+          answer = now (answer .exit);
+        }
         ≡ blockAnswer (now (sheet .entry)) (now (h .entry)) (now (g .entry)) (now (k .entry))
-        (now (state .entry)) (now (values .entry)) (now (out .entry)) (now (answer .entry)) ⌝ }
+        (slices (now (state .entry)) (now (line .entry)) (now (errors .entry))) (now (values .entry)) (now (out .entry)) (now (answer .entry)) ⌝ }
 {
-    calls::block(sheet, h, g, k, state, values, out, answer)
+    calls::block(sheet, h, g, k, state, line, errors, values, out, answer)
 }
 
 #[no_mangle]
@@ -49,12 +60,51 @@ pub extern "C" fn huntelm_read(
     g: &[i32],
     k: &[i32],
     state: &[i64],
+    line: &[i32],
+    errors: &[i32],
     answer: &mut [i64],
 ) -> u32
     ensures { λ r. ⌜ record { number = r; places = now (answer .exit) }
-        ≡ readAnswer (now (sheet .entry)) (now (h .entry)) (now (g .entry)) (now (k .entry)) (now (state .entry)) (now (answer .entry)) ⌝ }
+        ≡ readAnswer (now (sheet .entry)) (now (h .entry)) (now (g .entry)) (now (k .entry))
+        (slices (now (state .entry)) (now (line .entry)) (now (errors .entry))) (now (answer .entry)) ⌝ }
 {
-    calls::read(sheet, h, g, k, state, answer)
+    calls::read(sheet, h, g, k, state, line, errors, answer)
+}
+
+#[no_mangle]
+pub extern "C" fn huntelm_ask(
+    sheet: &[i64],
+    h: &[i32],
+    g: &[i32],
+    k: &[i32],
+    state: &[i64],
+    line: &[i32],
+    errors: &[i32],
+    answer: &mut [i64],
+) -> u32
+    ensures { λ r. ⌜ record { number = r; places = now (answer .exit) }
+        ≡ askAnswer (now (sheet .entry)) (now (h .entry)) (now (g .entry)) (now (k .entry))
+        (slices (now (state .entry)) (now (line .entry)) (now (errors .entry))) (now (answer .entry)) ⌝ }
+{
+    calls::ask(sheet, h, g, k, state, line, errors, answer)
+}
+
+#[no_mangle]
+pub extern "C" fn huntelm_commit(
+    ticket: u64,
+    sheet: &[i64],
+    h: &[i32],
+    g: &[i32],
+    k: &[i32],
+    state: &mut [i64],
+    line: &[i32],
+    errors: &[i32],
+) -> u32
+    ensures { λ r. ⌜ record { number = r; places = now (state .exit) }
+        ≡ commitAnswer ticket (now (sheet .entry)) (now (h .entry)) (now (g .entry)) (now (k .entry))
+        (slices (now (state .entry)) (now (line .entry)) (now (errors .entry))) ⌝ }
+{
+    calls::commit(ticket, sheet, h, g, k, state, line, errors)
 }
 
 #[no_mangle]

@@ -10,6 +10,7 @@ use lib.ListN.{length, take, length-append}
 use lib.Seq.{length-take-le}
 use lib.IntN.{ℤ}
 use borrow.Author.Tests.{eq-eqb, ne-eqb, eqb-true, eqb-false}
+use Rattle.arith.proofs.Both.{and-right}
 use Rattle.kinds.specs.Answer.{answered, firstNumber}
 use Rattle.kinds.proofs.Answered.{first-is, then-is}
 use Rattle.params.specs.Refusal.{Refusal, firstOf}
@@ -18,10 +19,11 @@ use Rattle.params.proofs.Faults.{Numbered, faults-numbered}
 use Rattle.params.proofs.Accepted.{no-faults as accepted-sheet}
 use Rattle.state.specs.declared.Pair.{Pair}
 use Rattle.state.specs.declared.Frontend.{Frontend}
-use Rattle.state.specs.Start.{atRest, startOf, fresh}
+use Rattle.fields.specs.Fields.{noFields, sameFields}
+use Rattle.state.specs.Start.{startOf, fresh}
 use Rattle.fixed.specs.Sample.{falls, madeBy, next, after, emitted}
 use Rattle.fixed.specs.Block.{Block, pairsOf, accepted, blockOf}
-use Rattle.state.specs.Check.{goodState, stateFaults, pairsTaken}
+use Rattle.state.specs.Check.{goodState, canGoOn, stateFaults, pairsTaken}
 use Rattle.state.specs.Read.{readOf}
 use Rattle.state.proofs.Going.{Going, going}
 use Rattle.fixed.proofs.States.{run-going}
@@ -29,8 +31,8 @@ use Rattle.fixed.proofs.Runs.{run-samples}
 use Rattle.fixed.proofs.Turns.{pairs-long}
 use Rattle.fixed.proofs.Refused.{number-first, no-faults, ran}
 use Rattle.state.proofs.Verdicts.{state-refuses, Faultless, faultless}
-use Rattle.places.specs.States.{stateFits, stateOf, readState, hasPlaces}
-use Rattle.places.proofs.Placed.{Placed, has-places}
+use Rattle.places.specs.States.{Slices, stateAnswered, stateFits, stateOf, readState, hasPlaces}
+use Rattle.places.proofs.Placed.{has-places}
 use Rattle.calls.specs.Calls.{stateNumber}
 
 -- ---- numbers of refusals
@@ -59,22 +61,29 @@ none-of a b e = go (eqb a 0) refl
     go true t = (eqb-true a 0 t, rw t at e)
     go false t = absurd (eqb-false a 0 t (rw t at e))
 
--- ---- places that are those of no state
+-- ---- slices that are no state
 
--- zeros are no state to go on from: a sheet that is accepted has no period of 0
-zeros-bad : (s : Sheet) → faults s ≡ [] → goodState (s .params) (atRest 0 0) ≡ false
-zeros-bad s e = go (goodState (s .params) (atRest 0 0)) refl
+-- zeros, which are read of them
+abbrev zeros : Frontend
+zeros = fresh noFields
+
+-- they are no state to go on from: a sheet that is accepted has no period of 0
+zeros-bad : (s : Sheet) → faults s ≡ [] → canGoOn (s .params) zeros ≡ false
+unfolding canGoOn fresh
+zeros-bad s e = go (canGoOn (s .params) zeros) refl
   where
-    go : (b : Bool) → goodState (s .params) (atRest 0 0) ≡ b → goodState (s .params) (atRest 0 0) ≡ false
-    go true t = absurd (omega (arith, going (s .params) (atRest 0 0) t .loop .low, accepted-sheet s e .periods .above))
+    go : (b : Bool) → canGoOn (s .params) zeros ≡ b → canGoOn (s .params) zeros ≡ false
+    go true t =
+        let good = and-right (sameFields (s .params) noFields) (goodState (s .params) zeros) t in
+        absurd (omega (arith, going (s .params) zeros good .loop .low, accepted-sheet s e .periods .above))
     go false t = t
 
 -- so what refuses them is 9, after 1 to 8 and 29
-zeros-refused : (s : Sheet) → firstOf (stateFaults s (atRest 0 0)) .number ≡ firstNumber (judged s .number) 9
+zeros-refused : (s : Sheet) → firstOf (stateFaults s zeros) .number ≡ firstNumber (judged s .number) 9
 unfolding judged
 zeros-refused s = go (faults s) refl (faults-numbered s)
   where
-    go : (rs : List Refusal) → faults s ≡ rs → Numbered (faults s) → firstOf (stateFaults s (atRest 0 0)) .number ≡ firstNumber (firstOf (faults s) .number) 9
+    go : (rs : List Refusal) → faults s ≡ rs → Numbered (faults s) → firstOf (stateFaults s zeros) .number ≡ firstNumber (firstOf (faults s) .number) 9
     go [] e n = rw (e, zeros-bad s e) refl
     go (r ∷ rs) e n =
         let some : 0 < r .number = subst Numbered e n .0 in
@@ -88,26 +97,26 @@ reading-first s f = go (eqb (firstOf (stateFaults s f) .number) 0) refl
     go true e = rw e (sym (eqb-true _ 0 e))
     go false e = rw e refl
 
-block-of-zeros : (s : Sheet) (values out : List ℤ) → blockOf s (atRest 0 0) values out .refused .number ≡ firstNumber (judged s .number) 9
+block-of-zeros : (s : Sheet) (values out : List ℤ) → blockOf s zeros values out .refused .number ≡ firstNumber (judged s .number) 9
 block-of-zeros s values out =
-    let h : firstOf (stateFaults s (atRest 0 0)) .number ≡ 0 → ⊥ = nine (judged s .number) (zeros-refused s) in
-    let is = state-refuses s (atRest 0 0) (length values) (length out) (omega arith) refl in
-    number-first s (atRest 0 0) values out ∙ ap (λ (r : Refusal). r .number) (sym is) ∙ zeros-refused s
+    let h : firstOf (stateFaults s zeros) .number ≡ 0 → ⊥ = nine (judged s .number) (zeros-refused s) in
+    let is = state-refuses s zeros (length values) (length out) (omega arith) refl in
+    number-first s zeros values out ∙ ap (λ (r : Refusal). r .number) (sym is) ∙ zeros-refused s
 
-module _ (s : Sheet) (state : List ℤ) where
-  -- what refuses the state that is read of any places is what refuses the places, and then the state that they say
-  read-number : (refused : Frontend → ℕ) → refused (atRest 0 0) ≡ firstNumber (judged s .number) 9
+module _ (s : Sheet) (state : Slices) where
+  -- what refuses the state that is read of any slices is what refuses the slices, and then the state that they say
+  read-number : (refused : Frontend → ℕ) → refused zeros ≡ firstNumber (judged s .number) 9
       → refused (readState state) ≡ firstNumber (stateNumber s state) (refused (stateOf state))
   unfolding readState stateNumber
-  read-number refused zeros = go (stateFits state) refl
+  read-number refused of-zeros = go (stateFits state) refl
     where
       go : (b : Bool) → stateFits state ≡ b
-          → refused (cond (stateFits state) (stateOf state) (atRest 0 0)) ≡ firstNumber (cond (stateFits state) 0 (firstNumber (judged s .number) 9))
+          → refused (cond (stateFits state) (stateOf state) zeros) ≡ firstNumber (cond (stateFits state) 0 (firstNumber (judged s .number) 9))
           (refused (stateOf state))
       go true e = rw e refl
-      go false e = rw e (zeros ∙ first-is (firstNumber (judged s .number) 9) (refused (stateOf state)) (nine (judged s .number) refl) refl)
+      go false e = rw e (of-zeros ∙ first-is (firstNumber (judged s .number) 9) (refused (stateOf state)) (nine (judged s .number) refl) refl)
 
-  -- where nothing refuses the places, they are those of a state
+  -- where nothing refuses the slices, they are a state
   pub state-fits : stateNumber s state ≡ 0 → stateFits state ≡ true
   unfolding stateNumber
   state-fits z = go (stateFits state) refl
@@ -116,12 +125,24 @@ module _ (s : Sheet) (state : List ℤ) where
       go true e = e
       go false e = absurd (nine (judged s .number) refl (rw e at z))
 
+  -- what refuses slices that are none, and that nothing refuses those that are
+  pub no-state-is : stateFits state ≡ false → stateNumber s state ≡ firstNumber (judged s .number) 9
+  unfolding stateNumber
+  no-state-is e = rw e refl
+
+  pub no-state-refuses : stateFits state ≡ false → {n : ℕ} → n ≡ stateNumber s state → n ≡ 0 → ⊥
+  no-state-refuses e is = nine (judged s .number) (is ∙ no-state-is e)
+
+  pub state-passes : stateFits state ≡ true → stateNumber s state ≡ 0
+  unfolding stateNumber
+  state-passes e = rw e refl
+
   pub state-read : stateFits state ≡ true → readState state ≡ stateOf state
   unfolding readState
   state-read e = rw e refl
 
   pub reading-number : readOf s (readState state) .refused .number ≡ firstNumber (stateNumber s state) (readOf s (stateOf state) .refused .number)
-  reading-number = read-number (λ f. readOf s f .refused .number) (reading-first s (atRest 0 0) ∙ zeros-refused s)
+  reading-number = read-number (λ f. readOf s f .refused .number) (reading-first s zeros ∙ zeros-refused s)
 
   pub block-number : (values out : List ℤ)
       → blockOf s (readState state) values out .refused .number ≡ firstNumber (stateNumber s state) (blockOf s (stateOf state) values out .refused .number)
@@ -132,15 +153,15 @@ module _ (s : Sheet) (state : List ℤ) where
 pub then-answer : (a b : ℕ) (written places : List ℤ) → a ≡ 0 → answered (firstNumber a b) written places ≡ answered b written places
 then-answer a b written places z = rw (eq-eqb a 0 z) refl
 
+pub then-state : (a b : ℕ) (written state : Slices) → a ≡ 0 → stateAnswered (firstNumber a b) written state ≡ stateAnswered b written state
+then-state a b written state z = rw (eq-eqb a 0 z) refl
+
 -- ---- a state that starting gives has places
 
 pub started-placed : (s : Sheet) → hasPlaces (startOf s .state) ≡ true
 unfolding startOf fresh
-started-placed s = has-places (startOf s .state) (go (eqb (judged s .number) 0) refl)
-  where
-    go : (b : Bool) → eqb (judged s .number) 0 ≡ b → Placed (startOf s .state)
-    go true e = rw e (record { symbols = omega arith; head = omega arith; oldest = omega arith; waiting = omega arith; samples = omega arith })
-    go false e = rw e (record { symbols = omega arith; head = omega arith; oldest = omega arith; waiting = omega arith; samples = omega arith })
+started-placed s = has-places (startOf s .state)
+    (record { symbols = omega arith; head = omega arith; oldest = omega arith; waiting = omega arith; samples = omega arith })
 
 -- ---- so has one that a block gives
 

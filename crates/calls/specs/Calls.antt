@@ -1,6 +1,6 @@
--- What the calls of the C interface answer, for any places, banks and buffers. The answers are those of judging, starting, the block, reading, the offset
--- and a design with its sheet; ours is only how they cross: refusals by number alone, sheets and states as places, and no buffer touched by a call that is
--- refused. (Float samples: crates/input.)
+-- What the calls of the C interface answer, for any places, banks and buffers. The answers are those of judging, starting, the block, reading, asking,
+-- committing, the offset and a design with its sheet; ours is only how they cross: refusals by number alone, sheets and states as places, and no buffer touched
+-- by a call that is refused. (Float samples: crates/input.)
 -- (RULES 8.5)
 use Prim.Native.Nat.{ℕ}
 use mathlib.Core.Bool.{cond}
@@ -18,9 +18,10 @@ use Rattle.design.specs.Design.{sheetOfDesign}
 use Rattle.state.specs.Start.{Start, startOf}
 use Rattle.fixed.specs.Block.{Block, blockOf}
 use Rattle.state.specs.Read.{Read, readOf}
+use Rattle.retune.specs.Retune.{Ask, askOf, Commit, commitOf}
 use Rattle.places.specs.Sheet.{sheetNumber, paramsAt, sheetNumbers}
 use Rattle.places.specs.Rates.{designNumber, designAt, gainsAt}
-use Rattle.places.specs.States.{stateFits, stateOf, numbersOf}
+use Rattle.places.specs.States.{Slices, areLong, stateFits, stateOf, numbersOf, StateAnswer, stateAnswered}
 
 -- The sheet that 18 places and the banks say.
 abbrev pub sheetAt : List ℤ → List ℤ → List ℤ → List ℤ → Sheet
@@ -30,26 +31,26 @@ sheetAt l h g k = sheetOf (paramsAt l) h g k
 unfoldable pub judgeNumber : List ℤ → List ℤ → List ℤ → List ℤ → ℕ
 judgeNumber l h g k = firstNumber (sheetNumber l) (judged (sheetAt l h g k) .number)
 
--- Starting: 18 and 19, 1 to 8, 29, then 9 where there are not 186 places for the state.
-unfoldable pub startAnswer : List ℤ → List ℤ → List ℤ → List ℤ → List ℤ → Answer
+-- Starting: 18 and 19, 1 to 8, 29, then 9 where the slices for the state are not as long as one.
+unfoldable pub startAnswer : List ℤ → List ℤ → List ℤ → List ℤ → Slices → StateAnswer
 startAnswer l h g k state =
     let a : Start = startOf (sheetAt l h g k) in
-    answered (firstNumber (sheetNumber l) (firstNumber (a .refused .number) (cond (eqb (length state) 186) 0 9))) (numbersOf (a .state)) state
+    stateAnswered (firstNumber (sheetNumber l) (firstNumber (a .refused .number) (cond (areLong state) 0 9))) (numbersOf (a .state)) state
 
--- 9 of places that are those of no state, after 1 to 8 and 29.
-unfoldable pub stateNumber : Sheet → List ℤ → ℕ
+-- 9 of slices that are no state, after 1 to 8 and 29.
+unfoldable pub stateNumber : Sheet → Slices → ℕ
 stateNumber s state = cond (stateFits state) 0 (firstNumber (judged s .number) 9)
 
--- What a block answers, and what it leaves in the places of the state, of the output and of the answer that were lent.
+-- What a block answers, and what it leaves in the slices of the state and in the places of the output and of the answer that were lent.
 pub record BlockAnswer : Type 0 where
   pub number : ℕ
-  pub state : List ℤ
+  pub state : Slices
   pub output : List ℤ
   pub answer : List ℤ
 
 -- A block: 18 and 19, 1 to 8, 29, 9, 10 to 12, then 11 where there are fewer than four places for the answer. How many symbols it wrote, how many pairs it took
 -- and how many clips it counted stand in the first three; the others stay as they were.
-unfoldable pub blockAnswer : List ℤ → List ℤ → List ℤ → List ℤ → List ℤ → List ℤ → List ℤ → List ℤ → BlockAnswer
+unfoldable pub blockAnswer : List ℤ → List ℤ → List ℤ → List ℤ → Slices → List ℤ → List ℤ → List ℤ → BlockAnswer
 blockAnswer l h g k state values out answer =
     let s : Sheet = sheetAt l h g k in
     let b : Block = blockOf s (stateOf state) values out in
@@ -65,12 +66,27 @@ blockAnswer l h g k state values out answer =
     (record { number = n; state = state; output = out; answer = answer })
 
 -- Reading: 18 and 19, 1 to 8, 29, 9, then 11 where there are fewer than three places for period, gain and symbols.
-unfoldable pub readAnswer : List ℤ → List ℤ → List ℤ → List ℤ → List ℤ → List ℤ → Answer
+unfoldable pub readAnswer : List ℤ → List ℤ → List ℤ → List ℤ → Slices → List ℤ → Answer
 readAnswer l h g k state places =
     let s : Sheet = sheetAt l h g k in
     let a : Read = readOf s (stateOf state) in
     answered (firstNumber (sheetNumber l) (firstNumber (stateNumber s state) (firstNumber (a .refused .number) (cond (leb 3 (length places)) 0 11))))
     (pos (a .period) ∷ pos (a .gain) ∷ pos (a .symbols) ∷ drop 3 places) places
+
+-- Asking: 18 and 19, 1 to 8, 29, 9 of slices that are no state, then what asking refuses of a state, then 11 where there is no place for the ticket.
+unfoldable pub askAnswer : List ℤ → List ℤ → List ℤ → List ℤ → Slices → List ℤ → Answer
+askAnswer l h g k state places =
+    let s : Sheet = sheetAt l h g k in
+    let a : Ask = askOf s (stateOf state) in
+    answered (firstNumber (sheetNumber l) (firstNumber (stateNumber s state) (firstNumber (a .refused .number) (cond (leb 1 (length places)) 0 11))))
+    (pos (a .ticket) ∷ drop 1 places) places
+
+-- Committing: the same up to what committing refuses of a state. Of the state's slices the places alone are written.
+unfoldable pub commitAnswer : ℕ → List ℤ → List ℤ → List ℤ → List ℤ → Slices → Answer
+commitAnswer ticket l h g k state =
+    let s : Sheet = sheetAt l h g k in
+    let a : Commit = commitOf s ticket (stateOf state) in
+    answered (firstNumber (sheetNumber l) (firstNumber (stateNumber s state) (a .refused .number))) (numbersOf (a .state) .places) (state .places)
 
 -- The offset of a period: 18 and 19, 1 to 8, 29, 13, then 11 where there is no place for it.
 unfoldable pub offsetAnswer : List ℤ → List ℤ → List ℤ → List ℤ → ℕ → List ℤ → Answer

@@ -1,13 +1,17 @@
-// What the calls of the interface to C answer: judging, starting, the block, reading, the offset and designs, over numbers and lent slices.
+// What the calls of the interface to C answer: judging, starting, the block, reading, a retune, the offset and designs, over numbers and lent slices.
 //
 // No call asks anything of its caller: whatever is lent, it answers, with a refusal's number where something is wrong, and then it has touched no place.
-// 18 and 19 refuse a sheet or a design that cannot be read, before 14 to 17 and the judge's 1 to 8 and 29; places that are those of no state are refused
-// by 9, after the judge's.
+// 18 and 19 refuse a sheet or a design that cannot be read, before 14 to 17 and the judge's 1 to 8 and 29; slices that are no state are refused by 9, after
+// the judge's. A state is lent as three slices: its places, its line and its errors (crates/places).
 use design::SheetVerdict;
+use params::Params;
 use places::ReadDesign;
 use places::ReadSheet;
 ghost use mathlib.Core.Path.{_≡_};
-ghost use Rattle.calls.specs.Calls.{judgeNumber, startAnswer, blockAnswer, readAnswer, offsetAnswer, designAnswer};
+ghost use Rattle.kinds.specs.Answer.{firstNumber};
+ghost use Rattle.params.specs.Judge.{sheetOf, judged};
+ghost use Rattle.places.specs.States.{slices};
+ghost use Rattle.calls.specs.Calls.{judgeNumber, startAnswer, blockAnswer, readAnswer, askAnswer, commitAnswer, offsetAnswer, designAnswer};
 
 // The number of the sheet's first fault, or 0 (RULES 1.4).
 pub fn judge(sheet: &[i64], h: &[i32], g: &[i32], k: &[i32]) -> u32
@@ -23,9 +27,18 @@ pub fn judge(sheet: &[i64], h: &[i32], g: &[i32], k: &[i32]) -> u32
 }
 
 // Writes the fresh state of a sheet (RULES 3.1).
-pub fn start(sheet: &[i64], h: &[i32], g: &[i32], k: &[i32], state: &mut [i64]) -> u32
-    ensures { λ r. ⌜ record { number = r; places = now (state .exit) }
-        ≡ startAnswer (now (sheet .entry)) (now (h .entry)) (now (g .entry)) (now (k .entry)) (now (state .entry)) ⌝ }
+pub fn start(
+    sheet: &[i64],
+    h: &[i32],
+    g: &[i32],
+    k: &[i32],
+    state: &mut [i64],
+    line: &mut [i32],
+    errors: &mut [i32],
+) -> u32
+    ensures { λ r. ⌜ record { number = r; state = slices (now (state .exit)) (now (line .exit)) (now (errors .exit)) }
+        ≡ startAnswer (now (sheet .entry)) (now (h .entry)) (now (g .entry)) (now (k .entry))
+        (slices (now (state .entry)) (now (line .entry)) (now (errors .entry))) ⌝ }
 {
     match places::read_sheet(sheet) {
         ReadSheet::Refused(number) => number,
@@ -37,7 +50,7 @@ pub fn start(sheet: &[i64], h: &[i32], g: &[i32], k: &[i32], state: &mut [i64]) 
                 return refused;
             }
             let fresh = started.state;
-            places::write_state(fresh, &mut *state)
+            places::write_state(fresh, &mut *state, &mut *line, &mut *errors)
         }
     }
 }
@@ -50,18 +63,25 @@ pub fn block(
     g: &[i32],
     k: &[i32],
     state: &mut [i64],
+    line: &mut [i32],
+    errors: &mut [i32],
     values: &[i16],
     out: &mut [i64],
     answer: &mut [i64],
 ) -> u32
-    ensures { λ r. ⌜ record { number = r; state = now (state .exit); output = now (out .exit); answer = now (answer .exit) }
+    ensures { λ r. ⌜ record {
+      number = r;
+      state = slices (now (state .exit)) (now (line .exit)) (now (errors .exit));
+      output = now (out .exit);
+      answer = now (answer .exit);
+    }
         ≡ blockAnswer (now (sheet .entry)) (now (h .entry)) (now (g .entry)) (now (k .entry))
-        (now (state .entry)) (now (values .entry)) (now (out .entry)) (now (answer .entry)) ⌝ }
+        (slices (now (state .entry)) (now (line .entry)) (now (errors .entry))) (now (values .entry)) (now (out .entry)) (now (answer .entry)) ⌝ }
 {
     match places::read_sheet(sheet) {
         ReadSheet::Refused(number) => number,
         ReadSheet::Sheet(p) => {
-            let before = places::read_state(&*state);
+            let before = places::read_state(&*state, &*line, &*errors);
             // Without places for the answer the block is not run: what it would refuse comes first, and then nothing may be written.
             if answer.len() < 4 {
                 let refused = before
@@ -78,9 +98,9 @@ pub fn block(
             if refused != 0 {
                 return refused;
             }
-            // It writes: there are 186 places, and 12 refuses the block after which a count has none.
+            // It writes: the slices are as long as a state, and 12 refuses the block after which a count has no place.
             let after = done.state;
-            places::write_state(after, &mut *state);
+            places::write_state(after, &mut *state, &mut *line, &mut *errors);
             answer[0] = done.count as i64;
             answer[1] = done.taken as i64;
             answer[2] = done.clips as i64;
@@ -96,15 +116,18 @@ pub fn read(
     g: &[i32],
     k: &[i32],
     state: &[i64],
+    line: &[i32],
+    errors: &[i32],
     answer: &mut [i64],
 ) -> u32
     ensures { λ r. ⌜ record { number = r; places = now (answer .exit) }
-        ≡ readAnswer (now (sheet .entry)) (now (h .entry)) (now (g .entry)) (now (k .entry)) (now (state .entry)) (now (answer .entry)) ⌝ }
+        ≡ readAnswer (now (sheet .entry)) (now (h .entry)) (now (g .entry)) (now (k .entry))
+        (slices (now (state .entry)) (now (line .entry)) (now (errors .entry))) (now (answer .entry)) ⌝ }
 {
     match places::read_sheet(sheet) {
         ReadSheet::Refused(number) => number,
         ReadSheet::Sheet(p) => {
-            let reading = places::read_state(state).read(p, h, g, k);
+            let reading = places::read_state(state, line, errors).read(p, h, g, k);
             let verdict = reading.verdict;
             let refused = verdict.number();
             if refused != 0 {
@@ -117,6 +140,88 @@ pub fn read(
             answer[1] = reading.gain as i64;
             answer[2] = reading.symbols as i64;
             0
+        }
+    }
+}
+
+// 9 of slices that are no state, behind what judging refuses of the sheet.
+fn no_state(p: Params, h: &[i32], g: &[i32], k: &[i32]) -> u32
+    ensures { λ r. ⌜ r ≡ firstNumber (judged (sheetOf p (now (h .entry)) (now (g .entry)) (now (k .entry))) .number) 9 ⌝ }
+{
+    let verdict = p.validate(h, g, k);
+    let refused = verdict.number();
+    if refused != 0 {
+        return refused;
+    }
+    9
+}
+
+// Asks whether the sheet may be put into a state, and writes the ticket to one place (RULES 4.4).
+pub fn ask(
+    sheet: &[i64],
+    h: &[i32],
+    g: &[i32],
+    k: &[i32],
+    state: &[i64],
+    line: &[i32],
+    errors: &[i32],
+    answer: &mut [i64],
+) -> u32
+    ensures { λ r. ⌜ record { number = r; places = now (answer .exit) }
+        ≡ askAnswer (now (sheet .entry)) (now (h .entry)) (now (g .entry)) (now (k .entry))
+        (slices (now (state .entry)) (now (line .entry)) (now (errors .entry))) (now (answer .entry)) ⌝ }
+{
+    match places::read_sheet(sheet) {
+        ReadSheet::Refused(number) => number,
+        ReadSheet::Sheet(p) => {
+            if !places::is_state(state, line, errors) {
+                return no_state(p, h, g, k);
+            }
+            let asked = retune::ask(places::read_state(state, line, errors), p, h, g, k);
+            let verdict = asked.verdict;
+            let refused = verdict.number();
+            if refused != 0 {
+                return refused;
+            }
+            if answer.len() < 1 {
+                return 11;
+            }
+            answer[0] = asked.ticket as i64;
+            0
+        }
+    }
+}
+
+// Puts the sheet into a state: writes it to the held sheet's places, and leaves all others (RULES 4.5).
+pub fn commit(
+    ticket: u64,
+    sheet: &[i64],
+    h: &[i32],
+    g: &[i32],
+    k: &[i32],
+    state: &mut [i64],
+    line: &[i32],
+    errors: &[i32],
+) -> u32
+    ensures { λ r. ⌜ record { number = r; places = now (state .exit) }
+        ≡ commitAnswer ticket (now (sheet .entry)) (now (h .entry)) (now (g .entry)) (now (k .entry))
+        (slices (now (state .entry)) (now (line .entry)) (now (errors .entry))) ⌝ }
+{
+    match places::read_sheet(sheet) {
+        ReadSheet::Refused(number) => number,
+        ReadSheet::Sheet(p) => {
+            if !places::is_state(&*state, line, errors) {
+                return no_state(p, h, g, k);
+            }
+            let before = places::read_state(&*state, line, errors);
+            let done = retune::commit(before, ticket, p, h, g, k);
+            let verdict = done.verdict;
+            let refused = verdict.number();
+            if refused != 0 {
+                return refused;
+            }
+            // It writes: 18 places stand behind the first ten.
+            places::write_sheet(p, &mut state[10..])
         }
     }
 }

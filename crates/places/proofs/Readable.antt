@@ -12,7 +12,7 @@ use borrow.Author.Tests.{eq-eqb, eqb-true}
 use Rattle.kinds.specs.Kinds.{isKind, areKinds, placesNumber, KindAt}
 use Rattle.places.specs.Sheet.{sheetKinds, sheetNumber}
 use Rattle.places.specs.Rates.{designKinds, designNumber}
-use Rattle.places.specs.States.{Slices, firstKinds, stateKinds, stateFits}
+use Rattle.places.specs.States.{Slices, areLong, firstKinds, stateKinds, stateFits}
 use Rattle.arith.proofs.Both.{and-left, and-right, and-both}
 use Rattle.kinds.proofs.OfKind.{kind-at, kinds-append}
 use Rattle.kinds.proofs.Readable.{readable-at}
@@ -60,6 +60,10 @@ readable-state l e =
       long-errors = eqb-true _ 48 (and-right (a && b) c abc);
       kinds = and-right (a && b && c) d e;
     }
+
+pub state-long : (l : Slices) → stateFits l ≡ true → areLong l ≡ true
+unfolding stateFits
+state-long l e = and-left (areLong l) (areKinds stateKinds (l .places)) e
 
 -- 28 places are looked at in two parts: the first ten, and behind them those of a sheet
 first-part : (kinds : List ℕ) (l : List ℤ) (rest : List ℕ) → areKinds (kinds ++ rest) l ≡ true → areKinds kinds l ≡ true

@@ -174,9 +174,8 @@ impl List {
                     pairs[kept..].fill_with(|| [r.next() as i16, r.next() as i16]);
                     let mut left = &pairs[..];
                     while !left.is_empty() {
-                        let size = 1 + r
-                            .pick(&[0, 3, left.len()])
-                            .min(r.below(left.len() as u64) as usize);
+                        let most = r.pick(&[1, 4, left.len()]).min(left.len());
+                        let size = 1 + r.below(most as u64) as usize;
                         let (block, rest) = left.split_at(size);
                         list.block(&readings[*sheet], block.as_flattened(), SYMBOL * size);
                         left = rest;

@@ -155,6 +155,9 @@ impl<W: Write> Retunes<'_, '_, '_, W> {
         while self.drawn < Change::ALL.len() {
             self.retune()?;
         }
+        // one that is accepted, if the start was
+        let held = self.force.clone();
+        self.commit(&held, self.ticket())?;
         self.run.read(&self.force)?;
         self.run.tell_state()?;
         self.run.list().check(self.r)
@@ -162,7 +165,7 @@ impl<W: Write> Retunes<'_, '_, '_, W> {
 
     /// Several at one count of samples, as long as no block comes between.
     fn retunes(&mut self) -> io::Result<()> {
-        for _ in 0..1 + self.r.below(4) {
+        for _ in 0..1 + self.r.below(6) {
             self.retune()?;
         }
         Ok(())
@@ -230,7 +233,7 @@ impl<W: Write> Retunes<'_, '_, '_, W> {
     fn ask(&mut self, new: &Reading) -> io::Result<Asked> {
         let asked = self.run.ask(new)?;
         self.asked = asked.ticket;
-        if self.r.one_in(4) {
+        if self.r.one_in(6) {
             self.run.tell_state()?;
         }
         Ok(asked)
@@ -277,7 +280,7 @@ impl<W: Write> Retunes<'_, '_, '_, W> {
         if is_accepted {
             self.force = new.clone();
         }
-        if self.r.one_in(if is_accepted { 2 } else { 8 }) {
+        if self.r.one_in(if is_accepted { 3 } else { 10 }) {
             self.run.tell_state()?;
         }
         Ok(is_accepted)
@@ -297,12 +300,11 @@ impl<W: Write> Retunes<'_, '_, '_, W> {
 
     /// Sheets with faults of several kinds, with other taps or with those in force.
     fn faults(&mut self) -> io::Result<()> {
-        let at_first = at(&self.force, &self.run);
         let base = match self.r.one_in(2) {
-            true => at_first.other_taps(self.r),
-            false => at_first.sheet.clone(),
+            true => at(&self.force, &self.run).other_taps(self.r),
+            false => self.force.sheet().clone(),
         };
-        for _ in 0..3 + self.r.below(4) {
+        for _ in 0..4 + self.r.below(6) {
             let sheet = at(&self.force, &self.run).faults(base.clone(), self.r);
             let new = Reading::owning(sheet);
             match self.r.below(3) {
@@ -334,8 +336,8 @@ impl<W: Write> Retunes<'_, '_, '_, W> {
         let other = at(&self.force, &self.run).changed(change, self.r);
         let mut rest = &values[..];
         for reading in [new, &Reading::owning(other)] {
-            let taken = self.run.block(reading, rest, SYMBOL * rest.len() / 2)?;
-            rest = &rest[2 * taken..];
+            let block = self.run.block(reading, rest, SYMBOL * rest.len() / 2)?;
+            rest = &rest[2 * block.taken..];
         }
         self.run.offer(&self.force, rest, Outputs::Enough, self.r)
     }
@@ -344,8 +346,8 @@ impl<W: Write> Retunes<'_, '_, '_, W> {
     fn feed(&mut self, size: u64) -> io::Result<()> {
         let values = self.next_values(size);
         let outputs = match values.len() {
-            0..50 => Outputs::any(self.r),
-            _ => self.r.pick(&[Outputs::Enough, Outputs::Short]),
+            0..50 if self.r.one_in(3) => Outputs::any(self.r),
+            _ => Outputs::Enough,
         };
         self.run.offer(&self.force, &values, outputs, self.r)
     }

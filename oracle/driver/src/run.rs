@@ -6,7 +6,7 @@ use crate::both::Both;
 use crate::lists::List;
 use crate::outputs::Outputs;
 use crate::random::Random;
-use crate::reading::{Asked, Reading, SYMBOL};
+use crate::reading::{Asked, Block, Reading, SYMBOL};
 use crate::rows::Rows;
 use std::io::{self, Write};
 
@@ -44,8 +44,13 @@ impl<'a, 'b, W: Write> Run<'a, 'b, W> {
             if r.one_in(12) {
                 self.odd_block(reading, rest, r)?;
             }
-            let taken = self.block(reading, rest, outputs.places(r, rest.len() / 2))?;
-            rest = &rest[2 * taken..];
+            let block = self.block(reading, rest, outputs.places(r, rest.len() / 2))?;
+            if block.refusal == [9] {
+                return Err(io::Error::other(
+                    "RULES 5.3 does not hold of the reading: 9 under the sheet in force",
+                ));
+            }
+            rest = &rest[2 * block.taken..];
             if rest.is_empty() || !reading.refusal().is_empty() {
                 return Ok(());
             }
@@ -71,13 +76,12 @@ impl<'a, 'b, W: Write> Run<'a, 'b, W> {
         Ok(())
     }
 
-    /// A block, and how many pairs it took.
-    pub fn block(&mut self, reading: &Reading, values: &[i16], places: usize) -> io::Result<usize> {
+    pub fn block(&mut self, reading: &Reading, values: &[i16], places: usize) -> io::Result<Block> {
         let block = self.both.block(reading, values, places)?;
         self.rows.sheet(reading.sheet())?;
         self.rows.values(values)?;
         self.rows.block(places, &block)?;
-        Ok(block.taken)
+        Ok(block)
     }
 
     /// The state in force, as the answer that it is.

@@ -24,10 +24,10 @@ use Rattle.state.specs.declared.Frontend.{Frontend}
 use Rattle.state.specs.Check.{stateFaults}
 use Rattle.state.specs.Read.{Read, readOf, reading}
 use Rattle.places.specs.Sheet.{sheetNumber}
-use Rattle.places.specs.States.{stateFits, stateOf, readState}
+use Rattle.places.specs.States.{Slices, slices, stateFits, registersAt, stateOf, readState}
 use Rattle.kinds.proofs.Answered.{refuses, writes, first-is, then-is}
 use Rattle.places.proofs.Read.{Unread, Sheeted, sheet-refused, sheet-read}
-use Rattle.places.proofs.Readable.{state-at}
+use Rattle.places.proofs.Readable.{readable-state, first-fits, first-at}
 use Rattle.kinds.specs.Answer.{firstNumber}
 use Rattle.calls.specs.Calls.{sheetAt, stateNumber, readAnswer}
 use Rattle.calls.proofs.Answers.{first-more, none-of, state-fits, state-read, reading-number}
@@ -63,7 +63,7 @@ read-requires c κs = search needs
 number-requires : tie.Need-number-requires
 number-requires c κs = search needs
 
--- what reading answers of any places
+-- what reading answers of any slices
 module _ (c : tie.After-read) where
   abbrev arm : tie.After-p
   arm = c .before .before .before
@@ -74,29 +74,29 @@ module _ (c : tie.After-read) where
   abbrev sheet : Sheet
   sheet = let a = start .args in sheetAt (a .sheet .now) (a .h .now) (a .g .now) (a .k .now)
 
-  abbrev places : List ℤ
-  places = start .args .state .now
+  abbrev given : Slices
+  given = let a = start .args in slices (a .state .now) (a .line .now) (a .errors .now)
 
-  told : reading (c .read .result) ≡ readOf sheet (readState places)
+  told : reading (c .read .result) ≡ readOf sheet (readState given)
   told =
       let a = start .args in
       let of-p : Params → Read = λ p. readOf (sheetOf p (a .h .now) (a .g .now) (a .k .now)) (c .before .read-state .result) in
       c .read .ensures ∙ ap of-p (readable arm .is) ∙ ap (λ (f : Frontend). readOf sheet f) (c .before .read-state .ensures)
 
--- its number: that of the places, then that of the state that they say
+-- its number: that of the slices, then that of the state that they say
 numbered : (c : tie.After-number2) → let r = c .before in
-    c .number2 .result ≡ firstNumber (stateNumber (sheet r) (places r)) (readOf (sheet r) (stateOf (places r)) .refused .number)
+    c .number2 .result ≡ firstNumber (stateNumber (sheet r) (given r)) (readOf (sheet r) (stateOf (given r)) .refused .number)
 numbered c =
     let r = c .before in
-    c .number2 .ensures ∙ ap (λ (a : Read). a .refused .number) (told r) ∙ reading-number (sheet r) (places r)
+    c .number2 .ensures ∙ ap (λ (a : Read). a .refused .number) (told r) ∙ reading-number (sheet r) (given r)
 
 returns : tie.Need-returns
 unfolding readAnswer
 returns c =
     let r = c .before .before in
     let room : ℕ = cond (leb 3 (length (start r .args .answer .now))) 0 11 in
-    let state : ℕ = stateNumber (sheet r) (places r) in
-    let read : ℕ = readOf (sheet r) (stateOf (places r)) .refused .number in
+    let state : ℕ = stateNumber (sheet r) (given r) in
+    let read : ℕ = readOf (sheet r) (stateOf (given r)) .refused .number in
     refuses _ _ _ (c .if1 .taken) (then-is _ _ (readable (arm r) .none) (first-more state read room (c .if1 .taken) (numbered (c .before))))
 
 -- ---- nothing is refused so far
@@ -105,19 +105,19 @@ module _ (c : tie.Else1) where
   abbrev read : tie.After-read
   read = c .before .before
 
-  none : (stateNumber (sheet read) (places read) ≡ 0) × (readOf (sheet read) (stateOf (places read)) .refused .number ≡ 0)
+  none : (stateNumber (sheet read) (given read) ≡ 0) × (readOf (sheet read) (stateOf (given read)) .refused .number ≡ 0)
   none = none-of _ _ (sym (numbered (c .before)) ∙ c .if1 .left)
 
-  fitting : stateFits (places read) ≡ true
-  fitting = state-fits (sheet read) (places read) (none .0)
+  fitting : stateFits (given read) ≡ true
+  fitting = state-fits (sheet read) (given read) (none .0)
 
-  answered : reading (read .read .result) ≡ readOf (sheet read) (stateOf (places read))
-  answered = told read ∙ ap (λ (f : Frontend). readOf (sheet read) f) (state-read (sheet read) (places read) fitting)
+  answered : reading (read .read .result) ≡ readOf (sheet read) (stateOf (given read))
+  answered = told read ∙ ap (λ (f : Frontend). readOf (sheet read) f) (state-read (sheet read) (given read) fitting)
 
   -- so the length of the answer decides
   sized : (room : ℕ) {n : ℕ} → n ≡ room
       → n ≡ firstNumber (sheetNumber (start read .args .sheet .now))
-      (firstNumber (stateNumber (sheet read) (places read)) (firstNumber (readOf (sheet read) (stateOf (places read)) .refused .number) room))
+      (firstNumber (stateNumber (sheet read) (given read)) (firstNumber (readOf (sheet read) (stateOf (given read)) .refused .number) room))
   sized room e = then-is _ _ (readable (arm read) .none) (then-is _ _ (none .0) (then-is _ _ (none .1) e))
 
 returns-2 : tie.Need-returns-2
@@ -139,12 +139,12 @@ few s f = go (eqb (firstOf (stateFaults s f) .number) 0) refl
     go false e = rw e (omega arith)
 
 small : (c : tie.Else1) → read c .read .result .symbols ≤ 9223372036854775807
-unfolding stateOf
+unfolding stateOf registersAt
 small c =
     let r = read c in
-    let five = state-at (places r) (fitting c) 5 (lit< tt) .is in
-    let symbols : r .read .result .symbols ≡ readOf (sheet r) (stateOf (places r)) .symbols = ap (λ (a : Read). a .symbols) (answered c) in
-    omega (arith, symbols, few (sheet r) (stateOf (places r)), count-small (at (places r) 5) five)
+    let five = first-at (given r .places) (first-fits (readable-state (given r) (fitting c))) 5 (lit< tt) .is in
+    let symbols : r .read .result .symbols ≡ readOf (sheet r) (stateOf (given r)) .symbols = ap (λ (a : Read). a .symbols) (answered c) in
+    omega (arith, symbols, few (sheet r) (stateOf (given r)), count-small (at (given r .places) 5) five)
 
 cast-answer : tie.Need-cast-answer
 cast-answer c = search needs

@@ -2,20 +2,18 @@
 use mathlib.Core.Path.{_≡_, refl, sym, ap, _∙_}
 use mathlib.Core.Bool.{cond, and-true}
 use mathlib.Core.List.{List}
-use lib.Dec.{eqb}
-use lib.ListN.{length}
-use lib.IntN.{ℤ}
+use Prim.Native.Nat.{ℕ}
+use borrow.Author.Tests.{ne-eqb}
 use borrow.Author.Needs.{needs}
 use Rattle.params.specs.declared.Params.{Params}
 use Rattle.params.specs.Judge.{Sheet, sheetOf}
 use Rattle.state.specs.Start.{Start, startOf, started}
-use Rattle.kinds.specs.Answer.{answered}
 use Rattle.places.specs.Sheet.{sheetNumber}
-use Rattle.places.specs.States.{numbersOf, stateWritten}
-use Rattle.kinds.proofs.Answered.{refuses, first-is, then-is}
+use Rattle.places.specs.States.{Slices, slices, areLong, StateAnswer, stateAnswered, numbersOf, stateWritten}
+use Rattle.kinds.proofs.Answered.{first-is, then-is}
 use Rattle.places.proofs.Read.{Unread, Sheeted, sheet-refused, sheet-read}
 use Rattle.calls.specs.Calls.{sheetAt, startAnswer}
-use Rattle.calls.proofs.Answers.{then-answer, started-placed}
+use Rattle.calls.proofs.Answers.{then-state, started-placed}
 use Rattle.calls.proofs.start.Statement.{statement}
 use Rattle.calls.proofs.start.Tie as tie
 
@@ -55,6 +53,11 @@ module _ (c : tie.After-new) where
 number : (c : tie.After-number2) → c .number2 .result ≡ answer (c .before) .refused .number
 number c = c .number2 .ensures ∙ ap (λ (s : Start). s .refused .number) (told (c .before))
 
+-- a number other than 0 leaves the slices as they were
+refuses : (number : ℕ) (written l : Slices) {n : ℕ} → (n ≡ 0 → ⊥) → n ≡ number
+    → _≡_ {A = StateAnswer} (record { number = n; state = l }) (stateAnswered number written l)
+refuses number written l h e = rw (ne-eqb number 0 (λ z. h (e ∙ z))) (λ i. record { number = e i; state = l })
+
 returns : tie.Need-returns
 unfolding startAnswer
 returns c =
@@ -71,22 +74,30 @@ returns-2 c = let u = unread (c .before) in refuses _ _ _ (u .some) (first-is _ 
 same-length : tie.Need-same-length
 same-length c = search needs
 
--- its counts have places, so that the number of places decides
-written : (s : Sheet) (l : List ℤ) → stateWritten (startOf s .state) l ≡ answered (cond (eqb (length l) 186) 0 9) (numbersOf (startOf s .state)) l
+same-length-2 : tie.Need-same-length-2
+same-length-2 c = search needs
+
+same-length-3 : tie.Need-same-length-3
+same-length-3 c = search needs
+
+-- its counts have places, so that the lengths of the slices decide
+written : (s : Sheet) (l : Slices) → stateWritten (startOf s .state) l ≡ stateAnswered (cond (areLong l) 0 9) (numbersOf (startOf s .state)) l
 unfolding stateWritten
-written s l = rw (started-placed s, and-true (eqb (length l) 186)) refl
+written s l = rw (started-placed s, and-true (areLong l)) refl
 
 returns-3 : tie.Need-returns-3
 unfolding startAnswer
 returns-3 c =
-    let right = c .before .before .before .before in
+    let w = c .before .before .before in
+    let right = w .before .before .before .before .before in
     let new = right .before .before in
-    let l = new .before .before .before .before .before .args .state .now in
-    c .before .write-state .ensures
+    let a = new .before .before .before .before .before .args in
+    let l = slices (a .state .now) (a .line .now) (a .errors .now) in
+    w .write-state .ensures
     ∙ ap (λ (s : Start). stateWritten (s .state) l) (told new)
     ∙ written _ l
-    ∙ sym (then-answer _ _ _ l (sym (number (right .before)) ∙ right .if1 .left))
-    ∙ sym (then-answer _ _ _ l (readable (new .before .before) .none))
+    ∙ sym (then-state _ _ _ l (sym (number (right .before)) ∙ right .if1 .left))
+    ∙ sym (then-state _ _ _ l (readable (new .before .before) .none))
 
 pub start-spec : {M : Type 1} → statement M
 start-spec =
@@ -101,4 +112,6 @@ start-spec =
     write-state-requires
     returns-2
     same-length
+    same-length-2
+    same-length-3
     returns-3)

@@ -26,8 +26,8 @@ pub enum Change {
     /// One less than the least.
     IntegratorOutside,
     Agc,
-    /// The mixer's step, the detector's shift, or what symbols are quantised to.
-    Way,
+    /// The mixer's step, the detector's shift, what symbols are quantised to, or what nothing reads.
+    Rest,
     /// A field, by one.
     OneField,
     Many,
@@ -42,17 +42,33 @@ pub enum Change {
 }
 
 impl Change {
-    pub const ALL: [Self; 18] = [
+    /// Every change, and those several times that leave the banks as they are.
+    pub const ALL: [Self; 34] = [
         Self::Nothing,
         Self::Earlier,
+        Self::Earlier,
+        Self::Gains,
+        Self::Gains,
         Self::Gains,
         Self::Nominal,
+        Self::Nominal,
+        Self::PeriodAt,
+        Self::PeriodAt,
         Self::PeriodAt,
         Self::PeriodOutside,
+        Self::PeriodOutside,
+        Self::IntegratorAt,
         Self::IntegratorAt,
         Self::IntegratorOutside,
+        Self::IntegratorOutside,
         Self::Agc,
-        Self::Way,
+        Self::Agc,
+        Self::Agc,
+        Self::Rest,
+        Self::Rest,
+        Self::Rest,
+        Self::OneField,
+        Self::OneField,
         Self::OneField,
         Self::Many,
         Self::Banks,
@@ -61,6 +77,7 @@ impl Change {
         Self::Taps,
         Self::Judged,
         Self::Faults,
+        Self::Faults,
     ];
 }
 
@@ -68,7 +85,7 @@ impl Change {
 pub struct At<'a> {
     /// The sheet in force.
     pub sheet: &'a Sheet,
-    /// Those that were in force before, and it.
+    /// It and others that were in force before.
     pub sheets: &'a [Sheet],
     pub state: &'a State,
 }
@@ -89,7 +106,7 @@ impl At<'_> {
             Change::IntegratorAt => sheet.integrator_max = self.least_bound() + r.pick(&[0, 0, 1]),
             Change::IntegratorOutside => self.integrator_outside(&mut sheet, r),
             Change::Agc => agc(&mut sheet, r),
-            Change::Way => way(&mut sheet, r),
+            Change::Rest => rest(&mut sheet, r),
             Change::OneField => sheet = one_field(&sheet, r),
             Change::Many => many(&mut sheet, r),
             Change::Banks => banks(&mut sheet, r),
@@ -136,27 +153,21 @@ impl At<'_> {
         }
     }
 
-    /// The least bound that the integrator is within.
+    /// The least bound that the integrator is within, or one that judging refuses.
     fn least_bound(&self) -> i32 {
-        ((self.state.v.abs() + 0xffff) >> 16) as i32
+        ((self.state.v.abs() + 0xffff) >> 16).min(1 << 22) as i32
     }
 
     /// Other taps, often next to the head of the line, with banks of nothing.
     pub fn other_taps(&self, r: &mut Random) -> Sheet {
-        let (taps, head) = (self.sheet.taps, self.state.head as u32);
+        let taps = i128::from(self.sheet.taps);
         // the first that has the head within, and the one before it
-        let near = (head / 2 + 1) * 2;
-        let any = 4 + 2 * r.below(31) as u32;
-        let wanted = [
-            taps + 2,
-            taps.saturating_sub(2),
-            near,
-            near.saturating_sub(2),
-            any,
-        ];
-        let mut wanted = wanted.map(|taps| taps.clamp(4, 64)).to_vec();
-        wanted.retain(|other| *other != taps);
-        let taps = r.pick(&wanted);
+        let near = (self.state.head / 2 + 1) * 2;
+        let any = r.between(2, 32) * 2;
+        let mut wanted = vec![taps + 2, taps - 2, near, near - 2, any.into()];
+        wanted.retain(|other| *other != taps && (4..=64).contains(other));
+        wanted.push(if taps == 4 { 6 } else { 4 });
+        let taps = r.pick(&wanted) as u32;
         Sheet {
             taps,
             banks: std::array::from_fn(|_| vec![0; 64 * taps as usize]),
@@ -237,7 +248,7 @@ fn agc(sheet: &mut Sheet, r: &mut Random) {
     }
 }
 
-fn way(sheet: &mut Sheet, r: &mut Random) {
+fn rest(sheet: &mut Sheet, r: &mut Random) {
     match r.below(5) {
         0 => sheet.nco_step = r.next() as i32,
         1 => sheet.ted_shift = ends(r, 0, 30) as u8,
@@ -269,7 +280,7 @@ fn many(sheet: &mut Sheet, r: &mut Random) {
     nominal(sheet, r);
     agc(sheet, r);
     for _ in 0..3 {
-        way(sheet, r);
+        rest(sheet, r);
     }
 }
 
