@@ -1,6 +1,6 @@
 /*
- * Calls every function of the archive through include/huntelm.h, from C or from C++, and compares each answer with what the header says. Prints
- * 'N answers, M wrong', and before it each that is wrong; the exit status is 1 where one is.
+ * Calls every function of the archive through include/huntelm.h, from C or from C++, and compares each answer with what the header says: by the inline calls,
+ * and by the functions underneath where lengths are wrong. Prints 'N answers, M wrong', and before it each that is wrong; the exit status is 1 where one is.
  */
 #include "huntelm.h"
 
@@ -10,7 +10,10 @@
 
 #define TAPS 4
 #define BANK (HUNTELM_ROWS * TAPS)
-#define FULL sheet, 18, h, BANK, g, BANK, h, BANK
+
+/* The sheet and the state as the functions underneath are lent them. */
+#define SHEET sheet.places, HUNTELM_SHEET_PLACES, sheet.h, sheet.h_len, sheet.g, sheet.g_len, sheet.k, sheet.k_len
+#define STATE state.places, HUNTELM_STATE_PLACES, state.line, HUNTELM_LINE_NUMBERS, state.errors, HUNTELM_ERROR_NUMBERS
 
 static int answers, wrong;
 
@@ -21,9 +24,9 @@ static void expect(const char *what, int64_t got, int64_t want) {
     printf("wrong: %s: %ld, not %ld\n", what, (long)got, (long)want);
 }
 
-static int64_t sheet[HUNTELM_SHEET_PLACES];
 static int32_t h[BANK], g[BANK];
-static int64_t state[HUNTELM_STATE_PLACES], kept[HUNTELM_STATE_PLACES];
+static struct huntelm_sheet sheet;
+static struct huntelm_state state, kept;
 
 /* Buffers for symbols and answers, and for what a block says, every place of which holds a mark; and how many places do not. */
 static int64_t out[3 * HUNTELM_SYMBOL_PLACES + 1], answer[HUNTELM_BLOCK_PLACES + 2];
@@ -48,19 +51,28 @@ static int64_t written(void) {
     return written_from(out, 0, OUT) + written_from(answer, 0, ANSWER);
 }
 
+/* The sheet of the whole case (docs/RULES.md, 9), with h for k too. */
 static void fill(void) {
     static const int64_t fields[HUNTELM_SHEET_PLACES] = {TAPS, 0, 33554432, 32883343, 34225520, 8, 0, 0, 0, 0, 335544, 262144, 16384, 4, 8, 6, 12, 24};
     size_t row;
-    memcpy(sheet, fields, sizeof sheet);
+    memcpy(sheet.places, fields, sizeof fields);
+    sheet.h = sheet.k = h;
+    sheet.g = g;
+    sheet.h_len = sheet.g_len = sheet.k_len = BANK;
     memset(h, 0, sizeof h);
     memset(g, 0, sizeof g);
     for (row = 0; row < HUNTELM_ROWS; row++) h[row * TAPS] = 16384;
     mark();
 }
 
-/* A block on the whole state, with so many places for symbols and so many for what it says. */
+static void start(void) {
+    expect("starting", huntelm_state_start(&state, &sheet), HUNTELM_ACCEPTED);
+}
+
+/* A block with so many places for symbols and so many for what it says. */
 static uint32_t block(const int16_t *values, size_t values_len, size_t out_len, size_t answer_len) {
-    return huntelm_block(FULL, state, HUNTELM_STATE_PLACES, values, values_len, out, out_len, answer, answer_len);
+    if (answer_len == HUNTELM_BLOCK_PLACES) return huntelm_state_block(&state, &sheet, values, values_len, out, out_len, answer);
+    return huntelm_block(SHEET, STATE, values, values_len, out, out_len, answer, answer_len);
 }
 
 /* A block of a signal that nothing clips: how many symbols it writes and how many pairs it takes. Places behind the symbols, and behind the numbers, stay. */
@@ -77,24 +89,24 @@ static void expect_block(const char *what, const int16_t *values, size_t values_
 /* A block that is refused, and leaves state, symbols' places and answer as they were. */
 static void expect_refused(const char *what, const int16_t *values, size_t values_len, size_t out_len, size_t answer_len, int64_t want) {
     mark();
-    memcpy(kept, state, sizeof kept);
+    kept = state;
     expect(what, block(values, values_len, out_len, answer_len), want);
-    expect("it leaves the state", memcmp(state, kept, sizeof kept), 0);
+    expect("it leaves the state", memcmp(&state, &kept, sizeof kept), 0);
     expect("and all other places", written(), 0);
 }
 
 /* A sheet with one place changed. */
 static void expect_sheet(const char *what, int place, int64_t number, int64_t want) {
     fill();
-    sheet[place] = number;
-    expect(what, huntelm_judge(FULL), want);
-    expect(what, huntelm_start(FULL, state, HUNTELM_STATE_PLACES), want);
+    sheet.places[place] = number;
+    expect(what, huntelm_sheet_judge(&sheet), want);
+    expect(what, huntelm_state_start(&state, &sheet), want);
     fill();
 }
 
 static void judging(void) {
     fill();
-    expect("the whole case is accepted", huntelm_judge(FULL), HUNTELM_ACCEPTED);
+    expect("the whole case is accepted", huntelm_sheet_judge(&sheet), HUNTELM_ACCEPTED);
     expect_sheet("taps", HUNTELM_SHEET_TAPS, 5, HUNTELM_REFUSED_TAPS);
     expect_sheet("other taps", HUNTELM_SHEET_TAPS, 6, HUNTELM_REFUSED_BANK_LENGTH);
     expect_sheet("shortest period", HUNTELM_SHEET_PERIOD_MIN, 16777216, HUNTELM_REFUSED_PERIOD_BOUNDS);
@@ -118,25 +130,35 @@ static void judging(void) {
     expect_sheet("a delay above its type", HUNTELM_SHEET_DELAY, 256, HUNTELM_REFUSED_PLACE_TYPE);
     expect_sheet("a delay below its type", HUNTELM_SHEET_DELAY, -1, HUNTELM_REFUSED_PLACE_TYPE);
     h[9] = 131072;
-    expect("a coefficient", huntelm_judge(FULL), HUNTELM_REFUSED_COEFFICIENT);
+    expect("a coefficient", huntelm_sheet_judge(&sheet), HUNTELM_REFUSED_COEFFICIENT);
     h[9] = 131071;
-    expect("a row's sum", huntelm_judge(FULL), HUNTELM_REFUSED_COEFFICIENT_SUM);
+    expect("a row's sum", huntelm_sheet_judge(&sheet), HUNTELM_REFUSED_COEFFICIENT_SUM);
     fill();
-    expect("17 places", huntelm_judge(sheet, 17, h, BANK, g, BANK, h, BANK), HUNTELM_REFUSED_PLACE_COUNT);
+    expect("17 places", huntelm_judge(sheet.places, 17, h, BANK, g, BANK, h, BANK), HUNTELM_REFUSED_PLACE_COUNT);
     expect("19 places", huntelm_judge(out, 19, h, BANK, g, BANK, h, BANK), HUNTELM_REFUSED_PLACE_COUNT);
-    expect("a short bank", huntelm_judge(sheet, 18, h, BANK, g, BANK - 1, h, BANK), HUNTELM_REFUSED_BANK_LENGTH);
+    expect("18 places", huntelm_judge(SHEET), HUNTELM_ACCEPTED);
+    sheet.h_len--;
+    expect("a short h", huntelm_sheet_judge(&sheet), HUNTELM_REFUSED_BANK_LENGTH);
+    fill();
+    sheet.g_len--;
+    expect("a short g", huntelm_sheet_judge(&sheet), HUNTELM_REFUSED_BANK_LENGTH);
+    fill();
+    sheet.k_len--;
+    expect("a short k", huntelm_sheet_judge(&sheet), HUNTELM_REFUSED_BANK_LENGTH);
 }
 
 /* Of ten taps the first and the last are not the detector's. */
 static void detector(void) {
     static int32_t wide[HUNTELM_ROWS * 10];
     fill();
-    sheet[HUNTELM_SHEET_TAPS] = 10;
+    sheet.places[HUNTELM_SHEET_TAPS] = 10;
+    sheet.h = sheet.g = sheet.k = wide;
+    sheet.h_len = sheet.g_len = sheet.k_len = 640;
     wide[0] = 1;
-    expect("a coefficient outside the detector", huntelm_judge(sheet, 18, wide, 640, wide, 640, wide, 640), HUNTELM_REFUSED_DETECTOR_TAPS);
+    expect("a coefficient outside the detector", huntelm_sheet_judge(&sheet), HUNTELM_REFUSED_DETECTOR_TAPS);
     wide[0] = 0;
     wide[1] = 1;
-    expect("a coefficient of the detector", huntelm_judge(sheet, 18, wide, 640, wide, 640, wide, 640), HUNTELM_ACCEPTED);
+    expect("a coefficient of the detector", huntelm_sheet_judge(&sheet), HUNTELM_ACCEPTED);
 }
 
 static void path(void) {
@@ -144,36 +166,33 @@ static void path(void) {
     static const int64_t symbols[40] = {0, 0, 1000, -1000, 0, 0, 1000, -1000, 1024, 33554432, 1000, -1000, 0, 0, 1000, -1000, 16, -16, 0, 15896,
                                         2, 0, -1000, 1000, 0, 0, -1000, 1000, 1024, 33554432, -1000, 1000, 0, 0, -1000, 1000, -16, 16, 0, 15896};
     fill();
-    memcpy(kept, state, sizeof kept);
-    expect("a state of 185 places", huntelm_start(FULL, state, HUNTELM_STATE_PLACES - 1), HUNTELM_REFUSED_STATE);
-    expect("it stays as it was", memcmp(state, kept, sizeof kept), 0);
-    expect("starting", huntelm_start(FULL, state, HUNTELM_STATE_PLACES), HUNTELM_ACCEPTED);
-    expect("nominal period at the start", state[HUNTELM_STATE_PERIOD], 33554432);
-    expect("gain accumulator at the start", state[HUNTELM_STATE_GAIN_ACC], 262144);
+    start();
+    expect("nominal period at the start", state.places[HUNTELM_STATE_PERIOD], 33554432);
+    expect("gain accumulator at the start", state.places[HUNTELM_STATE_GAIN_ACC], 262144);
     expect_refused("an odd number of values", values, 5, OUT, ANSWER, HUNTELM_REFUSED_ODD_INPUT);
     expect_refused("19 places for three samples", values, 6, 19, ANSWER, HUNTELM_REFUSED_SHORT_OUTPUT);
-    expect("a sheet of 17 places", huntelm_block(sheet, 17, h, BANK, g, BANK, h, BANK, state, HUNTELM_STATE_PLACES, values, 6, out, OUT, answer, ANSWER),
+    expect("a sheet of 17 places", huntelm_block(sheet.places, 17, h, BANK, g, BANK, h, BANK, STATE, values, 6, out, OUT, answer, ANSWER),
            HUNTELM_REFUSED_PLACE_COUNT);
-    expect("it leaves the state", memcmp(state, kept, sizeof kept), 0);
+    expect("it leaves the state", memcmp(&state, &kept, sizeof kept), 0);
     expect("and all other places", written(), 0);
-    state[HUNTELM_STATE_T] = -1;
+    state.places[HUNTELM_STATE_T] = -1;
     expect_refused("a time below 0", values, 6, OUT, ANSWER, HUNTELM_REFUSED_STATE);
-    expect("its reading", huntelm_read(FULL, state, HUNTELM_STATE_PLACES, out, OUT), HUNTELM_REFUSED_STATE);
-    state[HUNTELM_STATE_T] = 0;
-    state[HUNTELM_STATE_SAMPLES] = INT64_MAX - 2;
+    expect("its reading", huntelm_state_read(&state, &sheet, out), HUNTELM_REFUSED_STATE);
+    state.places[HUNTELM_STATE_T] = 0;
+    state.places[HUNTELM_STATE_SAMPLES] = INT64_MAX - 2;
     expect_refused("a sample too many", values, 6, OUT, ANSWER, HUNTELM_REFUSED_TOO_MANY_SAMPLES);
-    state[HUNTELM_STATE_SAMPLES] = 0;
+    state.places[HUNTELM_STATE_SAMPLES] = 0;
     expect_block("a block", values, 6, OUT, 2, 3);
     expect("its symbols", memcmp(out, symbols, sizeof symbols), 0);
-    expect("samples", state[HUNTELM_STATE_SAMPLES], 3);
-    expect("time", state[HUNTELM_STATE_T], 16777216);
+    expect("samples", state.places[HUNTELM_STATE_SAMPLES], 3);
+    expect("time", state.places[HUNTELM_STATE_T], 16777216);
     expect("where the second fell", out[HUNTELM_SYMBOL_PLACES + HUNTELM_SYMBOL_SAMPLE], 2);
-    expect("its gain error", out[HUNTELM_SYMBOL_PLACES + HUNTELM_SYMBOL_ERR], state[HUNTELM_STATE_PENDING + 3]);
-    expect("the newest pair", state[HUNTELM_STATE_LINE + 2 * state[HUNTELM_STATE_HEAD]], -1000);
+    expect("its gain error", out[HUNTELM_SYMBOL_PLACES + HUNTELM_SYMBOL_ERR], state.errors[3]);
+    expect("the newest pair", state.line[2 * state.places[HUNTELM_STATE_HEAD]], -1000);
     mark();
-    expect("two places for a reading", huntelm_read(FULL, state, HUNTELM_STATE_PLACES, out, 2), HUNTELM_REFUSED_SHORT_OUTPUT);
+    expect("two places for a reading", huntelm_read(SHEET, STATE, out, 2), HUNTELM_REFUSED_SHORT_OUTPUT);
     expect("they stay as they were", written(), 0);
-    expect("reading", huntelm_read(FULL, state, HUNTELM_STATE_PLACES, out, OUT), HUNTELM_ACCEPTED);
+    expect("reading", huntelm_state_read(&state, &sheet, out), HUNTELM_ACCEPTED);
     expect("period", out[HUNTELM_READ_PERIOD], 33554432);
     expect("gain", out[HUNTELM_READ_GAIN], 1024);
     expect("symbols", out[HUNTELM_READ_SYMBOLS], 2);
@@ -224,45 +243,46 @@ static int64_t run(const int16_t *values, size_t values_len, size_t out_len, int
 /* However few the places, what is left offered again makes the run of one block with enough of them. The signal is loud, so that there are clips. */
 static void short_buffers(void) {
     static int16_t values[2 * PAIRS];
-    static int64_t whole[PAIRS * HUNTELM_SYMBOL_PLACES], parts[PAIRS * HUNTELM_SYMBOL_PLACES], end[HUNTELM_STATE_PLACES];
+    static int64_t whole[PAIRS * HUNTELM_SYMBOL_PLACES], parts[PAIRS * HUNTELM_SYMBOL_PLACES];
+    static struct huntelm_state end;
     int64_t clips;
     size_t n, places;
     noise(values);
     for (n = 0; n < 2 * PAIRS; n++) values[n] = (int16_t)(4 * values[n]);
     fill();
     for (n = 0; n < BANK; n += TAPS) h[n] = 131071;
-    sheet[HUNTELM_SHEET_DELAY] = 3;
-    sheet[HUNTELM_SHEET_AGC_INIT] = 524288;
-    expect("starting", huntelm_start(FULL, end, HUNTELM_STATE_PLACES), HUNTELM_ACCEPTED);
-    expect("all at once", huntelm_block(FULL, end, HUNTELM_STATE_PLACES, values, 2 * PAIRS, whole, PAIRS * HUNTELM_SYMBOL_PLACES, answer, ANSWER),
-           HUNTELM_ACCEPTED);
+    sheet.places[HUNTELM_SHEET_DELAY] = 3;
+    sheet.places[HUNTELM_SHEET_AGC_INIT] = 524288;
+    expect("starting", huntelm_state_start(&end, &sheet), HUNTELM_ACCEPTED);
+    expect("all at once", huntelm_state_block(&end, &sheet, values, 2 * PAIRS, whole, PAIRS * HUNTELM_SYMBOL_PLACES, answer), HUNTELM_ACCEPTED);
     expect("its symbols", answer[HUNTELM_BLOCK_COUNT], 13);
     expect("its pairs", answer[HUNTELM_BLOCK_TAKEN], PAIRS);
     expect("its clips, worked out from the noise by docs/RULES.md", answer[HUNTELM_BLOCK_CLIPS], 68);
     for (places = HUNTELM_SYMBOL_PLACES; places <= 45; places++) {
-        expect("starting", huntelm_start(FULL, state, HUNTELM_STATE_PLACES), HUNTELM_ACCEPTED);
+        start();
         expect("symbols of all parts", run(values, 2 * PAIRS, places, parts, &clips), 13);
         expect("they are those of the whole", memcmp(parts, whole, 13 * HUNTELM_SYMBOL_PLACES * sizeof *parts), 0);
         expect("and so are the clips", clips, 68);
-        expect("and so is the end", memcmp(state, end, sizeof end), 0);
+        expect("and so is the end", memcmp(&state, &end, sizeof end), 0);
     }
 }
 
 /* A block of so many pairs with so many places: all is as in a block of the pairs that it takes, whatever the others are. */
 static void expect_first(int16_t *values, size_t pairs, size_t places) {
-    static int64_t symbols[OUT], end[HUNTELM_STATE_PLACES];
+    static int64_t symbols[OUT];
+    static struct huntelm_state end;
     int64_t taken = least(pairs, places / HUNTELM_SYMBOL_PLACES);
     size_t n;
     noise(values);
-    expect("starting", huntelm_start(FULL, state, HUNTELM_STATE_PLACES), HUNTELM_ACCEPTED);
+    start();
     expect_block("the pairs that are taken", values, 2 * (size_t)taken, OUT, (taken + 1) / 2, taken);
     memcpy(symbols, out, sizeof symbols);
-    memcpy(end, state, sizeof end);
+    end = state;
     for (n = 2 * (size_t)taken; n < 2 * PAIRS; n++) values[n] = 32767;
-    expect("starting", huntelm_start(FULL, state, HUNTELM_STATE_PLACES), HUNTELM_ACCEPTED);
+    start();
     expect_block("with others behind them", values, 2 * pairs, places, (taken + 1) / 2, taken);
     expect("the same symbols", memcmp(out, symbols, sizeof symbols), 0);
-    expect("the same state", memcmp(state, end, sizeof end), 0);
+    expect("the same state", memcmp(&state, &end, sizeof end), 0);
 }
 
 static void first_pairs(void) {
@@ -283,14 +303,14 @@ static void places_of_the_answer(void) {
     static const int16_t values[6] = {1000, -1000, 0, 0, -1000, 1000};
     size_t places;
     fill();
-    expect("starting", huntelm_start(FULL, state, HUNTELM_STATE_PLACES), HUNTELM_ACCEPTED);
+    start();
     for (places = 0; places < HUNTELM_BLOCK_PLACES; places++) {
         expect_refused("a short answer", values, 6, OUT, places, HUNTELM_REFUSED_SHORT_OUTPUT);
         expect_refused("a short answer and a short output", values, 6, 20, places, HUNTELM_REFUSED_SHORT_OUTPUT);
         expect_refused("a short answer of nothing", values, 0, 0, places, HUNTELM_REFUSED_SHORT_OUTPUT);
     }
     for (places = HUNTELM_BLOCK_PLACES; places <= ANSWER; places++) {
-        expect("starting", huntelm_start(FULL, state, HUNTELM_STATE_PLACES), HUNTELM_ACCEPTED);
+        start();
         mark();
         expect("an answer that is long enough", block(values, 6, 45, places), HUNTELM_ACCEPTED);
         expect("symbols", answer[HUNTELM_BLOCK_COUNT], 1);
@@ -314,12 +334,12 @@ static int64_t clips_of(int32_t of_h, int32_t of_g, int32_t of_k, int64_t gain, 
         g[n] = of_g;
         k[n] = of_k;
     }
-    sheet[HUNTELM_SHEET_AGC_INIT] = 256 * gain;
+    sheet.places[HUNTELM_SHEET_AGC_INIT] = 256 * gain;
     values[0] = (int16_t)i;
     values[1] = (int16_t)q;
-    expect("starting", huntelm_start(sheet, 18, h, BANK, g, BANK, k, BANK, state, HUNTELM_STATE_PLACES), HUNTELM_ACCEPTED);
-    expect("a block", huntelm_block(sheet, 18, h, BANK, g, BANK, k, BANK, state, HUNTELM_STATE_PLACES, values, 2, out, OUT, answer, ANSWER),
-           HUNTELM_ACCEPTED);
+    sheet.k = k;
+    start();
+    expect("a block", huntelm_state_block(&state, &sheet, values, 2, out, OUT, answer), HUNTELM_ACCEPTED);
     expect("its symbol", answer[HUNTELM_BLOCK_COUNT], 1);
     expect("its pair", answer[HUNTELM_BLOCK_TAKEN], 1);
     expect("three places of the answer", written_from(answer, 0, ANSWER), 3);
@@ -382,22 +402,22 @@ static void other_clamps(void) {
     size_t n;
     fill();
     for (n = 0; n < BANK; n += TAPS) g[n] = 16384;
-    sheet[HUNTELM_SHEET_TED_SHIFT] = 0;
-    sheet[HUNTELM_SHEET_KP] = sheet[HUNTELM_SHEET_KI] = 32767;
-    sheet[HUNTELM_SHEET_INTEGRATOR_MAX] = 1;
+    sheet.places[HUNTELM_SHEET_TED_SHIFT] = 0;
+    sheet.places[HUNTELM_SHEET_KP] = sheet.places[HUNTELM_SHEET_KI] = 32767;
+    sheet.places[HUNTELM_SHEET_INTEGRATOR_MAX] = 1;
     /* So large that the gain error is below 0 in 32 bits, and takes the whole gain away. */
-    sheet[HUNTELM_SHEET_AGC_TARGET] = 3221225472;
-    sheet[HUNTELM_SHEET_AGC_SHIFT] = 0;
-    sheet[HUNTELM_SHEET_BITS] = 2;
-    sheet[HUNTELM_SHEET_Q_SHIFT] = 0;
-    sheet[HUNTELM_SHEET_DELAY] = 1;
-    expect("starting", huntelm_start(FULL, state, HUNTELM_STATE_PLACES), HUNTELM_ACCEPTED);
+    sheet.places[HUNTELM_SHEET_AGC_TARGET] = 3221225472;
+    sheet.places[HUNTELM_SHEET_AGC_SHIFT] = 0;
+    sheet.places[HUNTELM_SHEET_BITS] = 2;
+    sheet.places[HUNTELM_SHEET_Q_SHIFT] = 0;
+    sheet.places[HUNTELM_SHEET_DELAY] = 1;
+    start();
     expect_block("a block", values, 6, OUT, 2, 3);
     expect("the output is clamped", out[HUNTELM_SYMBOL_Q_I], 1);
     expect("the timing error is", out[HUNTELM_SYMBOL_E], 8388607);
-    expect("the integrator is", state[HUNTELM_STATE_V], 65536);
-    expect("the period is", state[HUNTELM_STATE_PERIOD], 34225520);
-    expect("the gain accumulator is", state[HUNTELM_STATE_GAIN_ACC], 0);
+    expect("the integrator is", state.places[HUNTELM_STATE_V], 65536);
+    expect("the period is", state.places[HUNTELM_STATE_PERIOD], 34225520);
+    expect("the gain accumulator is", state.places[HUNTELM_STATE_GAIN_ACC], 0);
 }
 
 /* Symbols fall on the first and the third sample here, and are made of that sample alone. */
@@ -406,9 +426,9 @@ static void clips_of_symbols(void) {
     size_t n, room;
     fill();
     for (n = 0; n < BANK; n += TAPS) h[n] = 131071;
-    expect("starting", huntelm_start(FULL, state, HUNTELM_STATE_PLACES), HUNTELM_ACCEPTED);
+    start();
     expect_block("a sample on which no symbol falls", between, 6, OUT, 2, 3);
-    expect("starting", huntelm_start(FULL, state, HUNTELM_STATE_PLACES), HUNTELM_ACCEPTED);
+    start();
     for (room = 0; room < HUNTELM_BLOCK_PLACES; room++)
         expect_refused("a short answer", loud, 6, OUT, room, HUNTELM_REFUSED_SHORT_OUTPUT);
     expect_refused("an odd number of values", loud, 5, OUT, ANSWER, HUNTELM_REFUSED_ODD_INPUT);
@@ -425,32 +445,36 @@ static void clips_of_symbols(void) {
 static void order(void) {
     static const int16_t values[6] = {1000, -1000, 0, 0, -1000, 1000};
     fill();
-    expect("starting", huntelm_start(FULL, state, HUNTELM_STATE_PLACES), HUNTELM_ACCEPTED);
-    state[HUNTELM_STATE_SAMPLES] = INT64_MAX;
+    start();
+    state.places[HUNTELM_STATE_SAMPLES] = INT64_MAX;
     expect_refused("10 before 11 and 12", values, 3, 19, 0, HUNTELM_REFUSED_ODD_INPUT);
     expect_refused("11 before 12", values, 2, 19, ANSWER, HUNTELM_REFUSED_SHORT_OUTPUT);
     expect_refused("12 before a short answer", values, 2, 20, 3, HUNTELM_REFUSED_TOO_MANY_SAMPLES);
     expect_refused("12 and no answer", values, 6, OUT, 0, HUNTELM_REFUSED_TOO_MANY_SAMPLES);
     expect_block("nothing more", values, 0, 0, 0, 0);
-    state[HUNTELM_STATE_SAMPLES] = INT64_MAX - 1;
+    state.places[HUNTELM_STATE_SAMPLES] = INT64_MAX - 1;
     expect_refused("two pairs would be taken", values, 6, 40, ANSWER, HUNTELM_REFUSED_TOO_MANY_SAMPLES);
     expect_refused("one would, and the answer is short", values, 6, 39, 3, HUNTELM_REFUSED_SHORT_OUTPUT);
     expect_block("one would", values, 6, 39, 1, 1);
-    expect("no sample more can be counted", state[HUNTELM_STATE_SAMPLES], INT64_MAX);
+    expect("no sample more can be counted", state.places[HUNTELM_STATE_SAMPLES], INT64_MAX);
 }
 
-/* Every call on a state and an output of these lengths, with a period that no loop sets and values that are no whole samples. */
-static void expect_all(const char *what, size_t state_len, size_t out_len, int64_t want) {
+/* Every call on the state, so many of its places, and an output of this length; with a period that no loop sets and values that are no whole samples. */
+static void expect_all(const char *what, size_t places, size_t out_len, int64_t want) {
     static const int16_t values[3] = {1000, -1000, 0};
-    memcpy(kept, state, sizeof kept);
-    expect(what, huntelm_judge(FULL), want);
-    expect(what, huntelm_start(FULL, state, state_len), want);
-    expect(what, huntelm_block(FULL, state, state_len, values, 3, out, out_len, answer, 0), want);
-    expect(what, huntelm_block(FULL, state, state_len, values, 3, out, out_len, answer, ANSWER), want);
-    expect(what, huntelm_read(FULL, state, state_len, out, out_len), want);
-    expect(what, huntelm_offset(FULL, 0, out, out_len), want);
-    expect("the state stays as it was", memcmp(state, kept, sizeof kept), 0);
+#define SHORT state.places, places, state.line, HUNTELM_LINE_NUMBERS, state.errors, HUNTELM_ERROR_NUMBERS
+    kept = state;
+    expect(what, huntelm_sheet_judge(&sheet), want);
+    expect(what, huntelm_start(SHEET, SHORT), want);
+    expect(what, huntelm_block(SHEET, SHORT, values, 3, out, out_len, answer, 0), want);
+    expect(what, huntelm_block(SHEET, SHORT, values, 3, out, out_len, answer, ANSWER), want);
+    expect(what, huntelm_read(SHEET, SHORT, out, out_len), want);
+    expect(what, huntelm_ask(SHEET, SHORT, out, out_len), want);
+    expect(what, huntelm_commit(99, SHEET, SHORT), want);
+    expect(what, huntelm_offset(SHEET, 0, out, out_len), want);
+    expect("the state stays as it was", memcmp(&state, &kept, sizeof kept), 0);
     expect("and so does the output", written(), 0);
+#undef SHORT
 }
 
 /* A refused delay comes behind 8, and before everything that is not of the sheet. */
@@ -459,13 +483,13 @@ static void refused_delays(void) {
     size_t n;
     for (n = 0; n < 3; n++) {
         expect_sheet("a delay that is none", HUNTELM_SHEET_DELAY, delays[n], HUNTELM_REFUSED_DELAY);
-        expect("starting", huntelm_start(FULL, state, HUNTELM_STATE_PLACES), HUNTELM_ACCEPTED);
-        sheet[HUNTELM_SHEET_DELAY] = delays[n];
+        start();
+        sheet.places[HUNTELM_SHEET_DELAY] = delays[n];
         expect_all("a refused delay on a good state", HUNTELM_STATE_PLACES, OUT, HUNTELM_REFUSED_DELAY);
         expect_all("a refused delay with too few places", HUNTELM_STATE_PLACES - 1, 0, HUNTELM_REFUSED_DELAY);
-        state[HUNTELM_STATE_T] = -1;
+        state.places[HUNTELM_STATE_T] = -1;
         expect_all("a refused delay on a state that is refused", HUNTELM_STATE_PLACES, OUT, HUNTELM_REFUSED_DELAY);
-        sheet[HUNTELM_SHEET_AGC_SHIFT] = 64;
+        sheet.places[HUNTELM_SHEET_AGC_SHIFT] = 64;
         expect_all("a refused delay with a refused agc_shift", HUNTELM_STATE_PLACES, OUT, HUNTELM_REFUSED_AGC_SHIFT);
     }
 }
@@ -475,75 +499,328 @@ static void shortest_delay(void) {
     static const int16_t values[6] = {1000, -1000, 0, 0, -1000, 1000};
     static const int64_t second[20] = {2, 0, -1000, 1000, 0, 0, -1000, 1000, 1027, 33554432, -1003, 1003, 0, 0, -1003, 1003, -16, 16, 0, 15893};
     fill();
-    sheet[HUNTELM_SHEET_DELAY] = 1;
-    expect("starting", huntelm_start(FULL, state, HUNTELM_STATE_PLACES), HUNTELM_ACCEPTED);
+    sheet.places[HUNTELM_SHEET_DELAY] = 1;
+    start();
     expect_block("a block", values, 6, OUT, 2, 3);
     expect("the gain of the first symbol", out[HUNTELM_SYMBOL_GAIN], 1024);
     expect("the second symbol", memcmp(out + HUNTELM_SYMBOL_PLACES, second, sizeof second), 0);
-    expect("the gain accumulator", state[HUNTELM_STATE_GAIN_ACC], 263137);
-    expect("one pair waits", state[HUNTELM_STATE_WAITING], 1);
-    expect("behind the one that was taken", state[HUNTELM_STATE_OLDEST], 1);
-    expect("which stays where it was", state[HUNTELM_STATE_PENDING + 1], 15896);
-    expect("the error that waits", state[HUNTELM_STATE_PENDING + 3], 15893);
-    state[HUNTELM_STATE_OLDEST] = 23;
+    expect("the gain accumulator", state.places[HUNTELM_STATE_GAIN_ACC], 263137);
+    expect("one pair waits", state.places[HUNTELM_STATE_WAITING], 1);
+    expect("behind the one that was taken", state.places[HUNTELM_STATE_OLDEST], 1);
+    expect("which stays where it was", state.errors[1], 15896);
+    expect("the error that waits", state.errors[3], 15893);
+    state.places[HUNTELM_STATE_OLDEST] = 23;
     expect_block("a sample between symbols", values + 2, 2, OUT, 0, 1);
     expect_block("a symbol", values, 2, OUT, 1, 1);
-    expect("behind the last place comes the first", state[HUNTELM_STATE_OLDEST], 0);
-    expect("where the new error is", state[HUNTELM_STATE_PENDING + 1], out[HUNTELM_SYMBOL_ERR]);
-    state[HUNTELM_STATE_OLDEST] = 24;
-    expect("a position behind the ring", huntelm_read(FULL, state, HUNTELM_STATE_PLACES, out, OUT), HUNTELM_REFUSED_STATE);
+    expect("behind the last place comes the first", state.places[HUNTELM_STATE_OLDEST], 0);
+    expect("where the new error is", state.errors[1], out[HUNTELM_SYMBOL_ERR]);
+    state.places[HUNTELM_STATE_OLDEST] = 24;
+    expect("a position behind the ring", huntelm_state_read(&state, &sheet, out), HUNTELM_REFUSED_STATE);
 }
 
-/* As many errors wait as there are symbols, and no more than the delay. So delays of 23 and 24 take each other's states up to 23 symbols, and none behind. */
+/* As many errors wait as there are symbols, and no more than the delay. Under another delay a block is refused, also where as many would wait. */
 static void another_delay(void) {
     static const int16_t values[2] = {1000, -1000};
     int64_t delay, samples, symbols;
     for (delay = 23; delay <= 24; delay++) {
         fill();
-        sheet[HUNTELM_SHEET_DELAY] = delay;
-        expect("starting", huntelm_start(FULL, state, HUNTELM_STATE_PLACES), HUNTELM_ACCEPTED);
+        sheet.places[HUNTELM_SHEET_DELAY] = delay;
+        start();
         for (samples = 1; samples <= 52; samples++) {
             symbols = (samples + 1) / 2;
             expect_block("a sample", values, 2, OUT, samples % 2, 1);
-            expect("errors that wait", state[HUNTELM_STATE_WAITING], symbols < delay ? symbols : delay);
-            sheet[HUNTELM_SHEET_DELAY] = 47 - delay;
-            expect("under the other delay", huntelm_read(FULL, state, HUNTELM_STATE_PLACES, out, OUT),
-                   symbols <= 23 ? HUNTELM_ACCEPTED : HUNTELM_REFUSED_STATE);
-            sheet[HUNTELM_SHEET_DELAY] = delay;
+            expect("errors that wait", state.places[HUNTELM_STATE_WAITING], symbols < delay ? symbols : delay);
+            sheet.places[HUNTELM_SHEET_DELAY] = 47 - delay;
+            expect_refused("under the other delay", values, 2, OUT, HUNTELM_BLOCK_PLACES, HUNTELM_REFUSED_STATE);
+            sheet.places[HUNTELM_SHEET_DELAY] = delay;
         }
+    }
+}
+
+/* Banks of six taps, for those of four. */
+static int32_t wide[HUNTELM_ROWS * 6];
+
+static void use_wide(void) {
+    sheet.places[HUNTELM_SHEET_TAPS] = 6;
+    sheet.h = sheet.g = sheet.k = wide;
+    sheet.h_len = sheet.g_len = sheet.k_len = HUNTELM_ROWS * 6;
+}
+
+/* A sheet that nobody committed: block and reading are refused. */
+static void expect_other_sheet(const char *what) {
+    static const int16_t values[2] = {1000, -1000};
+    expect(what, huntelm_sheet_judge(&sheet), HUNTELM_ACCEPTED);
+    expect_refused(what, values, 2, OUT, HUNTELM_BLOCK_PLACES, HUNTELM_REFUSED_STATE);
+    expect(what, huntelm_state_read(&state, &sheet, out), HUNTELM_REFUSED_STATE);
+    expect("nothing is read", written(), 0);
+}
+
+/* A state goes on under the sheet that it holds: one other field is enough to refuse a sheet, whatever it does to a symbol. Banks are not held. */
+static void held_sheet(void) {
+    static const int64_t others[HUNTELM_SHEET_PLACES] = {6, 1, 33554433, 32883342, 34225521, 9, 1, 1, 1, 1, 335545, 262145, 16385, 5, 7, 7, 11, 23};
+    static const int16_t values[4] = {1000, -1000, 0, 0};
+    static int32_t k[BANK];
+    size_t place;
+    fill();
+    start();
+    expect("the held sheet", memcmp(state.places + HUNTELM_STATE_SHEET, sheet.places, sizeof sheet.places), 0);
+    expect_block("a block", values, 4, OUT, 1, 2);
+    expect("it still holds it", memcmp(state.places + HUNTELM_STATE_SHEET, sheet.places, sizeof sheet.places), 0);
+    for (place = 1; place < HUNTELM_SHEET_PLACES; place++) {
+        sheet.places[place] = others[place];
+        expect_other_sheet("another field");
+        fill();
+    }
+    use_wide();
+    expect_other_sheet("other taps");
+    fill();
+    sheet.k = k;
+    expect_block("other banks are not noticed", values, 2, OUT, 1, 1);
+    expect("the symbol is theirs", out[HUNTELM_SYMBOL_YK_I], 0);
+    expect("and the state's fields", state.places[HUNTELM_STATE_SHEET + HUNTELM_SHEET_AGC_TARGET], 16384);
+}
+
+/* A run whose loop has moved period and integrator: five symbols, three of whose errors wait. Every timing error is 7812, and the gain stays. */
+static void under_way(void) {
+    static const int16_t values[2] = {1000, -1000};
+    size_t n;
+    fill();
+    for (n = 0; n < BANK; n += TAPS) g[n] = 16384;
+    sheet.places[HUNTELM_SHEET_KP] = 1;
+    sheet.places[HUNTELM_SHEET_KI] = 10;
+    sheet.places[HUNTELM_SHEET_AGC_SHIFT] = 63;
+    sheet.places[HUNTELM_SHEET_DELAY] = 3;
+    start();
+    for (n = 0; n < 9; n++) expect("a sample", block(values, 2, OUT, HUNTELM_BLOCK_PLACES), HUNTELM_ACCEPTED);
+    expect("five symbols", state.places[HUNTELM_STATE_SYMBOLS], 5);
+    expect("the integrator", state.places[HUNTELM_STATE_V], 156240);
+    expect("the period", state.places[HUNTELM_STATE_PERIOD], 33562246);
+    mark();
+}
+
+#define NO_TICKET 77
+
+/* Asking for the sheet is refused, and so is committing it with the right ticket. Neither writes anything. */
+static void expect_no_retune(const char *what, int64_t want) {
+    uint64_t ticket = NO_TICKET;
+    kept = state;
+    expect(what, huntelm_state_ask(&state, &sheet, &ticket), want);
+    expect("there is no ticket", (int64_t)ticket, NO_TICKET);
+    expect(what, huntelm_state_commit(&state, &sheet, (uint64_t)state.places[HUNTELM_STATE_SYMBOLS]), want);
+    expect("it leaves the state", memcmp(&state, &kept, sizeof kept), 0);
+}
+
+/* The sheet may be put into the state, which then holds it and is else as it was. */
+static void expect_retune(const char *what) {
+    uint64_t ticket = NO_TICKET;
+    kept = state;
+    expect(what, huntelm_state_ask(&state, &sheet, &ticket), HUNTELM_ACCEPTED);
+    expect("the ticket", (int64_t)ticket, state.places[HUNTELM_STATE_SYMBOLS]);
+    expect("asking changes nothing", memcmp(&state, &kept, sizeof kept), 0);
+    expect(what, huntelm_state_commit(&state, &sheet, ticket), HUNTELM_ACCEPTED);
+    memcpy(kept.places + HUNTELM_STATE_SHEET, sheet.places, sizeof sheet.places);
+    expect("a commit writes the held sheet alone", memcmp(&state, &kept, sizeof kept), 0);
+}
+
+/* A retune of a run under way, where one field is another. */
+static void expect_field(const char *what, int place, int64_t number, int64_t want) {
+    under_way();
+    sheet.places[place] = number;
+    if (want) expect_no_retune(what, want);
+    else expect_retune(what);
+}
+
+static void retunes(void) {
+    expect_field("kp outside its type", HUNTELM_SHEET_KP, 32768, HUNTELM_REFUSED_PLACE_TYPE);
+    expect_field("taps", HUNTELM_SHEET_TAPS, 5, HUNTELM_REFUSED_TAPS);
+    expect_field("taps and old banks", HUNTELM_SHEET_TAPS, 6, HUNTELM_REFUSED_BANK_LENGTH);
+    expect_field("periods", HUNTELM_SHEET_PERIOD_MIN, 16777216, HUNTELM_REFUSED_PERIOD_BOUNDS);
+    expect_field("bits", HUNTELM_SHEET_BITS, 1, HUNTELM_REFUSED_RANGE);
+    expect_field("agc_shift", HUNTELM_SHEET_AGC_SHIFT, 64, HUNTELM_REFUSED_AGC_SHIFT);
+    expect_field("no delay", HUNTELM_SHEET_DELAY, 0, HUNTELM_REFUSED_DELAY);
+    expect_field("a delay above 24", HUNTELM_SHEET_DELAY, 25, HUNTELM_REFUSED_DELAY);
+    expect_field("a shorter delay than the held one", HUNTELM_SHEET_DELAY, 2, HUNTELM_REFUSED_DELAY);
+    expect_field("a longer delay than the held one", HUNTELM_SHEET_DELAY, 4, HUNTELM_REFUSED_DELAY);
+    expect_field("a longest period below the present one", HUNTELM_SHEET_PERIOD_MAX, 33562245, HUNTELM_REFUSED_STATE);
+    expect_field("a longest period that is the present one", HUNTELM_SHEET_PERIOD_MAX, 33562246, HUNTELM_ACCEPTED);
+    expect_field("an integrator that reaches less far", HUNTELM_SHEET_INTEGRATOR_MAX, 2, HUNTELM_REFUSED_STATE);
+    expect_field("an integrator that just reaches", HUNTELM_SHEET_INTEGRATOR_MAX, 3, HUNTELM_ACCEPTED);
+    expect_field("proportional gain", HUNTELM_SHEET_KP, -32768, HUNTELM_ACCEPTED);
+    expect_field("integral gain", HUNTELM_SHEET_KI, 32767, HUNTELM_ACCEPTED);
+    expect_field("nothing that a symbol depends on", HUNTELM_SHEET_BLOCK_LOG2, 8, HUNTELM_ACCEPTED);
+    under_way();
+    expect_retune("the held sheet again");
+    h[9] = 131072;
+    expect_no_retune("a coefficient", HUNTELM_REFUSED_COEFFICIENT);
+    h[9] = 131071;
+    expect_no_retune("a row's sum", HUNTELM_REFUSED_COEFFICIENT_SUM);
+    under_way();
+    use_wide();
+    expect_no_retune("other taps", HUNTELM_REFUSED_HELD_TAPS);
+}
+
+/* The ticket is the number of the state's symbols, and nothing else is. */
+static void tickets(void) {
+    static const uint64_t others[5] = {0, 4, 6, (uint64_t)1 << 63, UINT64_MAX};
+    static const int16_t values[2] = {1000, -1000};
+    size_t n;
+    under_way();
+    for (n = 0; n < 5; n++) {
+        kept = state;
+        expect("another ticket", huntelm_state_commit(&state, &sheet, others[n]), HUNTELM_REFUSED_TICKET);
+        expect("it leaves the state", memcmp(&state, &kept, sizeof kept), 0);
+    }
+    expect("a sample without a symbol", block(values, 2, OUT, HUNTELM_BLOCK_PLACES), HUNTELM_ACCEPTED);
+    expect("the ticket holds", huntelm_state_commit(&state, &sheet, 5), HUNTELM_ACCEPTED);
+    expect("behind a commit too", huntelm_state_commit(&state, &sheet, 5), HUNTELM_ACCEPTED);
+    expect("a symbol", block(values, 2, OUT, HUNTELM_BLOCK_PLACES), HUNTELM_ACCEPTED);
+    expect("and no longer", huntelm_state_commit(&state, &sheet, 5), HUNTELM_REFUSED_TICKET);
+}
+
+/* Of several faults the first in order is the answer. Each line adds one that comes before the others. */
+static void order_of_a_retune(void) {
+    under_way();
+    expect("a place for the ticket", huntelm_ask(SHEET, STATE, out, 1), HUNTELM_ACCEPTED);
+    expect("one place is written", written(), 1);
+    expect("it is the ticket", out[0], 5);
+    mark();
+    expect("no place for it", huntelm_ask(SHEET, STATE, out, 0), HUNTELM_REFUSED_SHORT_OUTPUT);
+    expect("another ticket", huntelm_commit(4, SHEET, STATE), HUNTELM_REFUSED_TICKET);
+#define RETUNE(what, want) \
+    expect(what, huntelm_ask(SHEET, STATE, out, 0), want); \
+    expect(what, huntelm_commit(4, SHEET, STATE), want)
+    kept = state;
+    use_wide();
+    RETUNE("27 before 11 and 28", HUNTELM_REFUSED_HELD_TAPS);
+    sheet.places[HUNTELM_SHEET_INTEGRATOR_MAX] = 2;
+    RETUNE("9 before 27", HUNTELM_REFUSED_STATE);
+    sheet.places[HUNTELM_SHEET_DELAY] = 4;
+    RETUNE("29 of the held delay before 9", HUNTELM_REFUSED_DELAY);
+    state.places[HUNTELM_STATE_SHEET] = kept.places[HUNTELM_STATE_SHEET] = -1;
+    RETUNE("9 of no state before 29 of the held delay", HUNTELM_REFUSED_STATE);
+    sheet.places[HUNTELM_SHEET_DELAY] = 25;
+    RETUNE("29 of the sheet before 9 of no state", HUNTELM_REFUSED_DELAY);
+    sheet.places[HUNTELM_SHEET_AGC_SHIFT] = 64;
+    RETUNE("8 before 29", HUNTELM_REFUSED_AGC_SHIFT);
+    sheet.places[HUNTELM_SHEET_KI] = 32768;
+    RETUNE("19 before 8", HUNTELM_REFUSED_PLACE_TYPE);
+#undef RETUNE
+    expect("18 before 19", huntelm_ask(sheet.places, 17, wide, 384, wide, 384, wide, 384, STATE, out, 0), HUNTELM_REFUSED_PLACE_COUNT);
+    expect("18 before 19", huntelm_commit(4, sheet.places, 17, wide, 384, wide, 384, wide, 384, STATE), HUNTELM_REFUSED_PLACE_COUNT);
+    expect("the state stays as it was", memcmp(&state, &kept, sizeof kept), 0);
+    expect("nothing is written", written(), 0);
+}
+
+/* Only delay and taps of the held sheet count: the others may be anything that its places take, and a commit sets them right. */
+static void mended_state(void) {
+    static const int16_t values[2] = {0, 0};
+    under_way();
+    state.places[HUNTELM_STATE_SHEET + HUNTELM_SHEET_BITS] = 200;
+    state.places[HUNTELM_STATE_SHEET + HUNTELM_SHEET_PERIOD_MIN] = 0;
+    expect_refused("under its sheet", values, 2, OUT, HUNTELM_BLOCK_PLACES, HUNTELM_REFUSED_STATE);
+    mark();
+    expect_retune("the sheet that it had");
+    expect("it goes on", block(values, 2, OUT, HUNTELM_BLOCK_PLACES), HUNTELM_ACCEPTED);
+}
+
+/* The period stays until the next error is applied, and follows the new sheet then. */
+static void retuned_run(void) {
+    static const int16_t values[2] = {1000, -1000};
+    under_way();
+    sheet.places[HUNTELM_SHEET_PERIOD_NOMINAL] = 33000000;
+    sheet.places[HUNTELM_SHEET_KP] = 3;
+    sheet.places[HUNTELM_SHEET_KI] = 0;
+    expect_retune("another period and other gains");
+    expect("reading", huntelm_state_read(&state, &sheet, out), HUNTELM_ACCEPTED);
+    expect("the period stays", out[HUNTELM_READ_PERIOD], 33562246);
+    expect_block("a sample without a symbol", values, 2, OUT, 0, 1);
+    expect("the period stays", state.places[HUNTELM_STATE_PERIOD], 33562246);
+    expect_block("a symbol", values, 2, OUT, 1, 1);
+    expect("its period, 33000000 + 2 of the integrator + 3 * 7812", out[HUNTELM_SYMBOL_PERIOD], 33023438);
+    expect("the integrator stays", state.places[HUNTELM_STATE_V], 156240);
+}
+
+/* A commit before the first sample is not a start: the first symbols, three here, have the period and the gain of the start. */
+static void commit_before_the_first_sample(void) {
+    static const int16_t values[14] = {1000, -1000, 1000, -1000, 1000, -1000, 1000, -1000, 1000, -1000, 1000, -1000, 1000, -1000};
+    size_t n;
+    under_way();
+    start();
+    sheet.places[HUNTELM_SHEET_PERIOD_NOMINAL] = 33000000;
+    sheet.places[HUNTELM_SHEET_AGC_INIT] = 131072;
+    expect_retune("another start");
+    for (n = 0; n < 14; n += 2) {
+        mark();
+        expect("a sample", block(values + n, 2, OUT, HUNTELM_BLOCK_PLACES), HUNTELM_ACCEPTED);
+        if (n % 4 != 0) continue;
+        expect("its period", out[HUNTELM_SYMBOL_PERIOD], n < 12 ? 33554432 : 33007813);
+        expect("its gain", out[HUNTELM_SYMBOL_GAIN], 1024);
+    }
+}
+
+/* Slices of other lengths than a state's are none: 9 of every call, and nothing is written. */
+static void lengths_of_a_state(void) {
+    static const size_t lengths[7][3] = {{27, 128, 48}, {29, 128, 48}, {28, 127, 48}, {28, 129, 48}, {28, 128, 47}, {28, 128, 49}, {0, 0, 0}};
+    static const int16_t values[2] = {1000, -1000};
+    static struct slices {
+        int64_t places[29];
+        int32_t line[129], errors[49];
+    } slices, before;
+    size_t n;
+    under_way();
+    memcpy(slices.places, state.places, sizeof state.places);
+    memcpy(slices.line, state.line, sizeof state.line);
+    memcpy(slices.errors, state.errors, sizeof state.errors);
+    before = slices;
+    for (n = 0; n < 7; n++) {
+#define SLICES slices.places, lengths[n][0], slices.line, lengths[n][1], slices.errors, lengths[n][2]
+        expect("starting", huntelm_start(SHEET, SLICES), HUNTELM_REFUSED_STATE);
+        expect("a block", huntelm_block(SHEET, SLICES, values, 2, out, OUT, answer, ANSWER), HUNTELM_REFUSED_STATE);
+        expect("reading", huntelm_read(SHEET, SLICES, out, OUT), HUNTELM_REFUSED_STATE);
+        expect("asking", huntelm_ask(SHEET, SLICES, out, OUT), HUNTELM_REFUSED_STATE);
+        expect("committing", huntelm_commit(5, SHEET, SLICES), HUNTELM_REFUSED_STATE);
+        expect("the slices stay as they were", memcmp(&slices, &before, sizeof before), 0);
+        expect("and so do all other places", written(), 0);
+#undef SLICES
     }
 }
 
 static void offset(void) {
     fill();
-    expect("a period that no loop sets", huntelm_offset(FULL, 34225521, out, OUT), HUNTELM_REFUSED_PERIOD);
-    expect("no place", huntelm_offset(FULL, 33554465, out, 0), HUNTELM_REFUSED_SHORT_OUTPUT);
+    expect("a period that no loop sets", huntelm_sheet_offset(&sheet, 34225521, out), HUNTELM_REFUSED_PERIOD);
+    expect("no place", huntelm_offset(SHEET, 33554465, out, 0), HUNTELM_REFUSED_SHORT_OUTPUT);
     expect("nothing is written", written(), 0);
-    expect("offset", huntelm_offset(FULL, 33554465, out, OUT), HUNTELM_ACCEPTED);
+    expect("offset", huntelm_sheet_offset(&sheet, 33554465, out), HUNTELM_ACCEPTED);
     expect("a slow sender", out[0], -983);
     expect("one place", written(), 1);
-    expect("offset", huntelm_offset(FULL, 33554399, out, OUT), HUNTELM_ACCEPTED);
+    expect("offset", huntelm_offset(SHEET, 33554399, out, OUT), HUNTELM_ACCEPTED);
     expect("a fast sender", out[0], 983);
+    expect("one place", written(), 1);
 }
 
 /* With length 0 a pointer may be NULL. */
 static void nothing_lent(void) {
+#define NO_STATE NULL, 0, NULL, 0, NULL, 0
     fill();
     expect("judging nothing", huntelm_judge(NULL, 0, NULL, 0, NULL, 0, NULL, 0), HUNTELM_REFUSED_PLACE_COUNT);
-    expect("judging no banks", huntelm_judge(sheet, 18, NULL, 0, NULL, 0, NULL, 0), HUNTELM_REFUSED_BANK_LENGTH);
-    expect("starting no state", huntelm_start(FULL, NULL, 0), HUNTELM_REFUSED_STATE);
-    expect("a block on no state", huntelm_block(FULL, NULL, 0, NULL, 0, NULL, 0, NULL, 0), HUNTELM_REFUSED_STATE);
-    expect("reading no state", huntelm_read(FULL, NULL, 0, NULL, 0), HUNTELM_REFUSED_STATE);
-    expect("starting", huntelm_start(FULL, state, HUNTELM_STATE_PLACES), HUNTELM_ACCEPTED);
-    expect("an empty block", huntelm_block(FULL, state, HUNTELM_STATE_PLACES, NULL, 0, NULL, 0, answer, HUNTELM_BLOCK_PLACES), HUNTELM_ACCEPTED);
+    expect("judging no banks", huntelm_judge(sheet.places, 18, NULL, 0, NULL, 0, NULL, 0), HUNTELM_REFUSED_BANK_LENGTH);
+    expect("starting no state", huntelm_start(SHEET, NO_STATE), HUNTELM_REFUSED_STATE);
+    expect("a block on no state", huntelm_block(SHEET, NO_STATE, NULL, 0, NULL, 0, NULL, 0), HUNTELM_REFUSED_STATE);
+    expect("reading no state", huntelm_read(SHEET, NO_STATE, NULL, 0), HUNTELM_REFUSED_STATE);
+    expect("asking of no state", huntelm_ask(SHEET, NO_STATE, NULL, 0), HUNTELM_REFUSED_STATE);
+    expect("committing to no state", huntelm_commit(0, SHEET, NO_STATE), HUNTELM_REFUSED_STATE);
+    start();
+    expect("an empty block", huntelm_state_block(&state, &sheet, NULL, 0, NULL, 0, answer), HUNTELM_ACCEPTED);
     expect("its symbols", answer[HUNTELM_BLOCK_COUNT], 0);
     expect("its pairs", answer[HUNTELM_BLOCK_TAKEN], 0);
     expect("its clips", answer[HUNTELM_BLOCK_CLIPS], 0);
-    expect("a block that says nothing", huntelm_block(FULL, state, HUNTELM_STATE_PLACES, NULL, 0, NULL, 0, NULL, 0), HUNTELM_REFUSED_SHORT_OUTPUT);
-    expect("a reading to nowhere", huntelm_read(FULL, state, HUNTELM_STATE_PLACES, NULL, 0), HUNTELM_REFUSED_SHORT_OUTPUT);
-    expect("an offset to nowhere", huntelm_offset(FULL, 33554432, NULL, 0), HUNTELM_REFUSED_SHORT_OUTPUT);
+    expect("a block that says nothing", huntelm_block(SHEET, STATE, NULL, 0, NULL, 0, NULL, 0), HUNTELM_REFUSED_SHORT_OUTPUT);
+    expect("a reading to nowhere", huntelm_read(SHEET, STATE, NULL, 0), HUNTELM_REFUSED_SHORT_OUTPUT);
+    expect("a ticket to nowhere", huntelm_ask(SHEET, STATE, NULL, 0), HUNTELM_REFUSED_SHORT_OUTPUT);
+    expect("an offset to nowhere", huntelm_offset(SHEET, 33554432, NULL, 0), HUNTELM_REFUSED_SHORT_OUTPUT);
     expect("no float samples", huntelm_sample(NULL, 0, NULL, 0), HUNTELM_ACCEPTED);
     expect("no design", huntelm_design(NULL, 0, NULL, 0, NULL, 0, NULL, 0, NULL, 0, NULL, 0), HUNTELM_REFUSED_PLACE_COUNT);
+#undef NO_STATE
 }
 
 static void samples(void) {
@@ -570,7 +847,7 @@ static void designs(void) {
     int64_t fields[HUNTELM_FIELD_PLACES] = {TAPS, 8, 12, 0, 0, 0, 0, 6};
     int64_t fresh[HUNTELM_SHEET_PLACES];
     fill();
-    memcpy(fresh, sheet, sizeof fresh);
+    memcpy(fresh, sheet.places, sizeof fresh);
 #define DESIGN rates, 5, fields, 8, h, BANK, g, BANK, h, BANK, out
     expect("17 places for a sheet", huntelm_design(DESIGN, 17), HUNTELM_REFUSED_SHORT_OUTPUT);
     rates[HUNTELM_RATE_TRIM] = 0.75;
@@ -598,6 +875,13 @@ static void designs(void) {
     expect("18 places for a sheet", huntelm_design(DESIGN, 18), HUNTELM_ACCEPTED);
     expect("all are written", written(), 18);
 #undef DESIGN
+    memset(sheet.places, 0, sizeof sheet.places);
+    expect("a design of the sheet's banks", huntelm_sheet_design(&sheet, rates, fields), HUNTELM_ACCEPTED);
+    expect("the sheet", memcmp(sheet.places, fresh, sizeof fresh), 0);
+    sheet.g_len--;
+    fields[HUNTELM_FIELD_KP] = 1;
+    expect("a bank that is too short", huntelm_sheet_design(&sheet, rates, fields), HUNTELM_REFUSED_BANK_LENGTH);
+    expect("the sheet stays as it was", memcmp(sheet.places, fresh, sizeof fresh), 0);
 }
 
 int main(void) {
@@ -615,6 +899,14 @@ int main(void) {
     refused_delays();
     shortest_delay();
     another_delay();
+    held_sheet();
+    retunes();
+    tickets();
+    order_of_a_retune();
+    mended_state();
+    retuned_run();
+    commit_before_the_first_sample();
+    lengths_of_a_state();
     offset();
     nothing_lent();
     samples();

@@ -181,7 +181,7 @@ unsafe extern "C" {
 }
 
 /// A state as the calls are lent it to read: [`STATE`] places, [`LINE`] numbers of the line and [`ERRORS`] of the errors. Slices of other lengths are no
-/// state, and are refused (9).
+/// state, and are refused (9). A state holds the fields of its sheet, and no banks.
 #[derive(Debug, Clone, Copy)]
 pub struct State<'a> {
     /// Registers, positions, counts and the held sheet.
@@ -261,6 +261,9 @@ impl Sheet<'_> {
     /// of the four or more places of `answer` become how many symbols were written, how many pairs were taken and how many numbers of the symbols were clipped
     /// ([`BLOCK_COUNT`], [`BLOCK_TAKEN`], [`BLOCK_CLIPS`]); the others stay as they were.
     ///
+    /// The sheet has to be the one that the state holds: one that differs in a field is refused (9). Other banks are not noticed, since no state holds any: the
+    /// symbols are then theirs.
+    ///
     /// The pairs behind those that were taken were not looked at. A caller that does not offer them again loses them, and no refusal says so. Where the call is
     /// not refused and was offered a pair, it takes at least one, so this comes to its end:
     ///
@@ -316,7 +319,7 @@ impl Sheet<'_> {
         }
     }
 
-    /// Writes a state's period, its gain and its number of symbols.
+    /// Writes the period of a state, its gain and its number of symbols. The sheet has to be the one that the state holds, as in [`block`](Self::block).
     pub fn read(self, state: State, answer: &mut [i64]) -> u32 {
         // SAFETY: slices; the one for writing is a `&mut`.
         unsafe {
@@ -341,7 +344,8 @@ impl Sheet<'_> {
         }
     }
 
-    /// Asks whether this sheet may be put into a state, and writes the ticket for [`commit`](Self::commit) to the first place of `answer`.
+    /// Asks whether this sheet may be put into a state, and writes the ticket for [`commit`](Self::commit) to the first place of `answer`: the number of the
+    /// state's symbols. [`Frontend::ask`](crate::Frontend::ask) has what is refused.
     pub fn ask(self, state: State, answer: &mut [i64]) -> u32 {
         // SAFETY: slices; the one for writing is a `&mut`.
         unsafe {
@@ -366,7 +370,7 @@ impl Sheet<'_> {
         }
     }
 
-    /// Puts this sheet into a state: its fields become the held ones, from place [`STATE_SHEET`] on. Line and errors are only read.
+    /// Puts this sheet into a state: its fields become the held ones, from place [`STATE_SHEET`] on, and nothing else changes. Line and errors are only read.
     pub fn commit(self, ticket: u64, places: &mut [i64], line: &[i32], errors: &[i32]) -> u32 {
         // SAFETY: slices; the one for writing is a `&mut`.
         unsafe {

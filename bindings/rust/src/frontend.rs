@@ -1,8 +1,8 @@
-//! The front end and its symbols: the archive keeps nothing between calls, so the state and the sheet that it goes with are kept here.
+//! The front end and its symbols: the archive keeps nothing between calls, so the state, and the sheet with its banks that it runs under, are kept here.
 
 use crate::archive::{
-    BLOCK, BLOCK_CLIPS, BLOCK_COUNT, BLOCK_TAKEN, SHEET, STATE, STATE_SAMPLES, STATE_T, SYMBOL,
-    Sheet,
+    self, BLOCK, BLOCK_CLIPS, BLOCK_COUNT, BLOCK_TAKEN, ERRORS, LINE, SHEET, STATE, STATE_SAMPLES,
+    STATE_T, SYMBOL, Sheet, StateMut,
 };
 use crate::{Params, Refusal};
 
@@ -120,12 +120,40 @@ impl Block {
     }
 }
 
-/// The front end: takes samples and gives symbols, from a fresh start on.
+/// A state as it is kept between calls.
+#[derive(Debug, Clone, Copy, PartialEq)]
+struct State {
+    places: [i64; STATE],
+    line: [i32; LINE],
+    errors: [i32; ERRORS],
+}
+
+impl State {
+    fn lent(&self) -> archive::State<'_> {
+        archive::State {
+            places: &self.places,
+            line: &self.line,
+            errors: &self.errors,
+        }
+    }
+
+    fn lent_mut(&mut self) -> StateMut<'_> {
+        StateMut {
+            places: &mut self.places,
+            line: &mut self.line,
+            errors: &mut self.errors,
+        }
+    }
+}
+
+/// The front end: takes samples and gives symbols, from a fresh start on. [`retune`](Self::retune) gives it other parameters while it runs.
 #[derive(Debug, Clone)]
 pub struct Frontend {
+    /// Those that the state holds, with their banks.
     params: Params,
+    /// The fields of `params` as places.
     sheet: [i64; SHEET],
-    state: [i64; STATE],
+    state: State,
     /// Room for the symbols of a block, kept from call to call.
     out: Vec<i64>,
 }
@@ -138,8 +166,12 @@ impl Frontend {
     /// 1 to 8, then 29, as [`Params::validate`] has them.
     pub fn new(params: Params) -> Result<Self, Refusal> {
         let sheet = params.places();
-        let mut state = [0; STATE];
-        Refusal::check(params.sheet(&sheet).start(&mut state))?;
+        let mut state = State {
+            places: [0; STATE],
+            line: [0; LINE],
+            errors: [0; ERRORS],
+        };
+        Refusal::check(params.sheet(&sheet).start(state.lent_mut()))?;
         Ok(Self {
             params,
             sheet,
@@ -240,12 +272,93 @@ impl Frontend {
         Ok(block)
     }
 
-    /// The parameters.
+    /// Asks whether other parameters may be put into the front end as it is now. The answer is the ticket for [`retune`](Self::retune): how many symbols there
+    /// are so far, and no more than that number. Nothing changes, and the ticket holds until the next symbol is made.
+    ///
+    /// # Errors
+    ///
+    /// In this order; `params` may differ from the present ones in everything but `delay` and `taps`:
+    ///
+    /// - 1 to 8, then 29, as [`Params::validate`] has them;
+    /// - 29 for another delay than the present one;
+    /// - 9 where the period or the integrator lies outside the bounds that `params` give them (`period_min`, `period_max`, `integrator_max`): ask again when
+    ///   the loop has moved, or with wider bounds;
+    /// - 27 for other taps than the present ones. Fewer taps are 9 at times, since the line may reach past them.
+    pub fn ask(&self, params: &Params) -> Result<u64, Refusal> {
+        let mut ticket = [0];
+        let sheet = params.places();
+        Refusal::check(params.sheet(&sheet).ask(self.state.lent(), &mut ticket))?;
+        // A count of symbols is below 2^63.
+        Ok(ticket[0] as u64)
+    }
+
+    /// Puts other parameters, with their banks, into the running front end, so that the carrier keeps its lock under new loop gains. They hold from the next
+    /// sample on. Nothing else changes: registers, counts, line and waiting errors stay. The period stays too, where the new nominal period is another one,
+    /// and moves when the next errors are applied. So a retune before the first sample is not a start with these parameters.
+    ///
+    /// Ask before a block, and retune before it too:
+    ///
+    /// ```
+    /// # use huntelm::{Frontend, Params, Refusal};
+    /// # let rows = |first: i32| [first, 0, 0, 0].repeat(64);
+    /// # let places = [4, 0, 33554432, 32883343, 34225520, 8, 0, 0, 0, 0, 335544, 262144, 16384, 4, 8, 6, 12, 1];
+    /// # let params = Params::from_places(&places, rows(16384), rows(8192), rows(16384))?;
+    /// # let pairs = [[1000, -1000]; 200];
+    /// let mut front = Frontend::new(params)?;
+    /// let mut symbols = Vec::new();
+    /// front.process(&pairs[..100], &mut symbols)?;
+    ///
+    /// let mut wanted = Some(Params { kp: 3, ..front.params().clone() });
+    /// for block in pairs[100..].chunks(50) {
+    ///     if let Some(params) = wanted.take() {
+    ///         match front.ask(&params) {
+    ///             Ok(ticket) => front.retune(ticket, params)?,
+    ///             Err(refusal) => {
+    ///                 println!("it goes on as it was: {refusal}");
+    ///                 // The loop is outside the new bounds: ask again before the next block.
+    ///                 if refusal == Refusal::State {
+    ///                     wanted = Some(params);
+    ///                 }
+    ///             }
+    ///         }
+    ///     }
+    ///     front.process(block, &mut symbols)?;
+    /// }
+    /// assert_eq!(front.params().kp, 3);
+    /// # assert_eq!((symbols[49].period, symbols[50].sample), (33554432, 100));
+    /// # assert_eq!(symbols[50].period, 33554432 + 3 * symbols[49].e as u32);
+    /// # assert!(symbols[49].e > 1000);
+    /// # Ok::<(), Refusal>(())
+    /// ```
+    ///
+    /// The parameters are handed over, as to [`new`](Self::new). Where the retune is refused they are dropped, and the front end goes on with its own. After
+    /// [`ask`](Self::ask) that cannot happen before the next symbol is made; who wants them in any case hands over a copy.
+    ///
+    /// A list of symbols with a retune in it is a list of its own. To make it again one needs the parameters with their banks, and how many
+    /// [`samples`](Self::samples) came before them.
+    ///
+    /// # Errors
+    ///
+    /// What [`ask`](Self::ask) refuses, in its order; then 28 where `ticket` is not the number of symbols so far. The front end, its parameters and its banks
+    /// are then as they were.
+    pub fn retune(&mut self, ticket: u64, params: Params) -> Result<(), Refusal> {
+        let sheet = params.places();
+        let State {
+            places,
+            line,
+            errors,
+        } = &mut self.state;
+        Refusal::check(params.sheet(&sheet).commit(ticket, places, line, errors))?;
+        (self.params, self.sheet) = (params, sheet);
+        Ok(())
+    }
+
+    /// The parameters that it runs under: those of the start, or of the last retune.
     pub fn params(&self) -> &Params {
         &self.params
     }
 
-    /// The period of the last symbol, 2^24 to the sample; no measure of a clock, see [`Params::offset`].
+    /// The period of the last symbol, 2^24 to the sample; no measure of a clock, see [`Params::offset`]. A retune leaves it.
     pub fn period(&self) -> u32 {
         self.read()[0] as u32
     }
@@ -262,12 +375,12 @@ impl Frontend {
 
     /// Samples so far.
     pub fn samples(&self) -> u64 {
-        self.state[STATE_SAMPLES] as u64
+        self.state.places[STATE_SAMPLES] as u64
     }
 
     /// How far behind the next sample the next symbol lies, 2^24 to the sample. It falls on that sample where this is less than 2^24.
     pub fn time(&self) -> u32 {
-        self.state[STATE_T] as u32
+        self.state.places[STATE_T] as u32
     }
 
     fn read(&self) -> [i64; 3] {
@@ -275,9 +388,9 @@ impl Frontend {
         Refusal::check(
             self.params
                 .sheet(&self.sheet)
-                .read(&self.state, &mut answer),
+                .read(self.state.lent(), &mut answer),
         )
-        .expect("a state that starting or a block has written is never refused");
+        .expect("a state of a run is never refused under the sheet that it holds");
         answer
     }
 }
@@ -285,12 +398,12 @@ impl Frontend {
 /// Offers samples to the archive. It takes as many of the first as `out` has room for a symbol each, and at least one where there is room for one.
 fn offer(
     sheet: Sheet,
-    state: &mut [i64],
+    state: &mut State,
     samples: &[[i16; 2]],
     out: &mut [i64],
 ) -> Result<Block, Refusal> {
     let mut answer = [0; BLOCK];
-    Refusal::check(sheet.block(state, samples.as_flattened(), out, &mut answer))?;
+    Refusal::check(sheet.block(state.lent_mut(), samples.as_flattened(), out, &mut answer))?;
     // Symbols and samples are no more than the pairs of a slice, and clips no more than 12 times as many.
     Ok(Block {
         symbols: answer[BLOCK_COUNT] as usize,
@@ -302,6 +415,7 @@ fn offer(
 #[cfg(test)]
 mod tests {
     use super::*;
+    use crate::archive::STATE_SHEET;
 
     fn params() -> Params {
         let h = [16384, 0, 0, 0].repeat(64);
@@ -315,7 +429,7 @@ mod tests {
     /// A front end next to the last sample that can be counted.
     fn late(left: i64) -> Frontend {
         let mut front = Frontend::new(params()).unwrap();
-        front.state[STATE_SAMPLES] = i64::MAX - left;
+        front.state.places[STATE_SAMPLES] = i64::MAX - left;
         front
     }
 
@@ -355,29 +469,90 @@ mod tests {
         assert_eq!(front.process(&[], &mut symbols), Ok(Block::default()));
     }
 
-    /// A block that the archive itself refuses leaves the places that were lent to it alone.
+    /// A block that the archive itself refuses leaves alone all that was lent to it.
     #[test]
     fn a_refused_call_touches_nothing() {
-        let p = params();
-        let places = p.places();
-        let sheet = p.sheet(&places);
-        let mut fresh = [7; STATE];
-        assert_eq!(sheet.start(&mut fresh), 0);
-        for (length, values, places, room, refusal) in [
-            (STATE - 1, 2, 20, BLOCK, Refusal::State),
-            (STATE, 3, 60, BLOCK, Refusal::OddInput),
-            (STATE, 4, 19, BLOCK, Refusal::ShortOutput),
-            (STATE, 4, 40, BLOCK - 1, Refusal::ShortOutput),
+        let front = Frontend::new(params()).unwrap();
+        let sheet = front.params.sheet(&front.sheet);
+        for (lengths, values, places, room, refusal) in [
+            ([STATE - 1, LINE, ERRORS], 2, 20, BLOCK, Refusal::State),
+            ([STATE, LINE - 1, ERRORS], 2, 20, BLOCK, Refusal::State),
+            ([STATE, LINE, ERRORS - 1], 2, 20, BLOCK, Refusal::State),
+            ([STATE, LINE, ERRORS], 3, 60, BLOCK, Refusal::OddInput),
+            ([STATE, LINE, ERRORS], 4, 19, BLOCK, Refusal::ShortOutput),
+            (
+                [STATE, LINE, ERRORS],
+                4,
+                40,
+                BLOCK - 1,
+                Refusal::ShortOutput,
+            ),
         ] {
-            let mut state = fresh;
+            let mut state = front.state;
             let mut out = vec![-3; places];
             let mut answer = vec![-5; room];
-            let values = vec![9; values];
-            let number = sheet.block(&mut state[..length], &values, &mut out, &mut answer);
+            let lent = StateMut {
+                places: &mut state.places[..lengths[0]],
+                line: &mut state.line[..lengths[1]],
+                errors: &mut state.errors[..lengths[2]],
+            };
+            let number = sheet.block(lent, &vec![9; values], &mut out, &mut answer);
             assert_eq!(number, refusal.number());
-            assert_eq!((state, out), (fresh, vec![-3; places]));
+            assert_eq!((state, out), (front.state, vec![-3; places]));
             assert_eq!(answer, vec![-5; room]);
         }
+    }
+
+    /// A refused retune leaves the front end as it was, the state whole, and an accepted one puts in the new sheet and nothing else.
+    #[test]
+    fn a_retune_changes_the_held_sheet_alone() {
+        let mut front = Frontend::new(params()).unwrap();
+        front.process(&[[100, -200]; 99], &mut Vec::new()).unwrap();
+        let (before, ticket) = (front.clone(), front.symbols());
+        let wanted = Params {
+            period_nominal: 33_000_000,
+            kp: 77,
+            k: vec![3; 256],
+            ..params()
+        };
+        for (ticket, wanted, refusal) in [
+            (
+                ticket,
+                Params {
+                    bits: 9,
+                    ..wanted.clone()
+                },
+                Refusal::Range,
+            ),
+            (
+                ticket,
+                Params {
+                    delay: 23,
+                    ..wanted.clone()
+                },
+                Refusal::Delay,
+            ),
+            (
+                ticket,
+                Params {
+                    period_max: 33_000_000,
+                    ..wanted.clone()
+                },
+                Refusal::State,
+            ),
+            (ticket - 1, wanted.clone(), Refusal::Ticket),
+        ] {
+            assert_eq!(front.retune(ticket, wanted), Err(refusal));
+            assert_eq!((front.state, front.sheet), (before.state, before.sheet));
+            assert_eq!(front.params, before.params);
+        }
+        assert_eq!(front.ask(&wanted), Ok(ticket));
+        assert_eq!(front.state, before.state);
+        assert_eq!(front.retune(ticket, wanted.clone()), Ok(()));
+        let mut right = before.state;
+        right.places[STATE_SHEET..].copy_from_slice(&wanted.places());
+        assert_eq!((front.state, front.sheet), (right, wanted.places()));
+        assert_eq!(front.params, wanted);
     }
 
     /// 18 and 19 are this crate's own tests where places become fields; they have to be the archive's.

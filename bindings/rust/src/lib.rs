@@ -7,7 +7,7 @@
 //!
 //! The names are those of isdb-rs's front end. What differs: a bank is one vector, row by row, and the taps are a field; the loop's delay, which is 24
 //! symbols there, is one too; whatever can be refused answers a [`Refusal`]; [`Frontend::process`] answers a [`Block`], which says how much of the signal was
-//! clipped; [`Params::design`] is given banks and gains.
+//! clipped; [`Frontend::retune`] gives a running front end other parameters; [`Params::design`] is given banks and gains.
 //!
 //! ```
 //! use huntelm::{Frontend, Params};

@@ -24,7 +24,9 @@ pub enum Refusal {
     Range = 7,
     /// 8: agc_shift is above 63.
     AgcShift = 8,
-    /// 9: a state that no run under its sheet can have. A [`Frontend`](crate::Frontend) never has one.
+    /// 9: a state that cannot go on under the sheet given: another sheet than the one that it holds, or a position, count or register outside its bounds. In a
+    /// retune, where the sheet is to be another one, the bounds alone: those of the period and of the integrator are the new sheet's. A
+    /// [`Frontend`](crate::Frontend) meets it there and nowhere else.
     State = 9,
     /// 10: an odd number of sample values. Pairs never are one.
     OddInput = 10,
@@ -47,12 +49,16 @@ pub enum Refusal {
     PlaceCount = 18,
     /// 19: a number is outside the type of its place.
     PlaceType = 19,
-    /// 29: delay is outside 1..24. It is judged behind 8.
+    /// 27: a retune to other taps than the present ones.
+    HeldTaps = 27,
+    /// 28: a retune whose ticket is not the number of symbols so far.
+    Ticket = 28,
+    /// 29: delay is outside 1..24, or in a retune another one than the present. It is judged behind 8.
     Delay = 29,
 }
 
 /// All refusals.
-const ALL: [Refusal; 20] = [
+const ALL: [Refusal; 22] = [
     Refusal::Taps,
     Refusal::BankLength,
     Refusal::Coefficient,
@@ -72,6 +78,8 @@ const ALL: [Refusal; 20] = [
     Refusal::Trim,
     Refusal::PlaceCount,
     Refusal::PlaceType,
+    Refusal::HeldTaps,
+    Refusal::Ticket,
     Refusal::Delay,
 ];
 
@@ -85,13 +93,13 @@ impl Refusal {
         self as u32
     }
 
-    /// The refusal that has this number. From 20 to 28 there is none: 20 is the symbol program's alone, and the others are not used.
+    /// The refusal that has this number. From 20 to 26 there is none: 20 is the symbol program's alone, and the others are not used.
     ///
     /// ```
     /// use huntelm::Refusal;
     ///
     /// assert_eq!(Refusal::from_number(12), Some(Refusal::TooManySamples));
-    /// assert_eq!(Refusal::from_number(29), Some(Refusal::Delay));
+    /// assert_eq!(Refusal::from_number(28), Some(Refusal::Ticket));
     /// assert_eq!(Refusal::from_number(0), None);
     /// ```
     pub fn from_number(number: u32) -> Option<Self> {
@@ -122,7 +130,7 @@ impl fmt::Display for Refusal {
             Self::PeriodBounds => "the periods are not 2^24 < min <= nominal <= max < 2^26",
             Self::Range => "a field of the sheet is outside its range",
             Self::AgcShift => "agc_shift is above 63",
-            Self::State => "the state is one that no run under its sheet can have",
+            Self::State => "the state cannot go on under this sheet: it holds another one, or is outside its bounds",
             Self::OddInput => "the number of sample values is odd",
             Self::ShortOutput => "there are too few places for the answer or for one symbol",
             Self::TooManySamples => "there are more than 2^63 - 1 samples in all",
@@ -135,7 +143,9 @@ impl fmt::Display for Refusal {
             Self::Trim => "the design's trim is outside -0.5..0.5",
             Self::PlaceCount => "the number of places is not the 18 of a sheet",
             Self::PlaceType => "a number is outside the type of its place",
-            Self::Delay => "the loop's delay is outside 1..24",
+            Self::HeldTaps => "a retune cannot change the taps",
+            Self::Ticket => "the retune's ticket is not the number of symbols so far",
+            Self::Delay => "the loop's delay is outside 1..24, or a retune would change it",
         })?;
         write!(f, " (refusal {})", self.number())
     }

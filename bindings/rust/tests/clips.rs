@@ -215,7 +215,7 @@ fn short_outputs_have_as_many() {
         while !left.is_empty() {
             let (mut out, mut answer) = (vec![0; room], [MARK; BLOCK + 1]);
             assert_eq!(
-                lent(&p, &places).block(&mut state, left, &mut out, &mut answer),
+                lent(&p, &places).block((&mut state).into(), left, &mut out, &mut answer),
                 0
             );
             assert!(answer[BLOCK_CLIPS] <= 12 * answer[BLOCK_COUNT]);
@@ -281,8 +281,8 @@ fn a_refused_call_answers_none() {
     };
     let good = fresh(&p);
     let (mut full, mut broken) = (good, good);
-    full[SAMPLES] = i64::MAX;
-    broken[SAMPLES] = -1;
+    full.places[SAMPLES] = i64::MAX;
+    broken.places[SAMPLES] = -1;
     for (p, state, length, places, room, refusal) in [
         (&refused, good, 8, 80, BLOCK, Refusal::Delay),
         (&p, broken, 8, 80, BLOCK, Refusal::State),
@@ -293,8 +293,12 @@ fn a_refused_call_answers_none() {
     ] {
         let (mut after, mut out, mut answer) = (state, vec![MARK; places], vec![MARK; room]);
         let sheet = p.places();
-        let number =
-            lent(p, &sheet).block(&mut after, &[32767; 8][..length], &mut out, &mut answer);
+        let number = lent(p, &sheet).block(
+            (&mut after).into(),
+            &[32767; 8][..length],
+            &mut out,
+            &mut answer,
+        );
         assert_eq!(number, refusal.number());
         assert_eq!(answer, vec![MARK; room], "{refusal}");
         assert_eq!((after, out), (state, vec![MARK; places]), "{refusal}");

@@ -119,7 +119,7 @@ fn offset() {
 #[test]
 fn every_refusal_has_its_number_and_a_text() {
     let mut texts = HashSet::new();
-    for number in (1..=19).chain([29]) {
+    for number in (1..=19).chain(27..=29) {
         let refusal = Refusal::from_number(number).unwrap();
         assert_eq!(refusal.number(), number);
         let text = refusal.to_string();
@@ -127,7 +127,7 @@ fn every_refusal_has_its_number_and_a_text() {
         assert!(text.len() > 30, "{text}");
         assert!(texts.insert(text));
     }
-    for number in [0, 20, 21, 28, 30, u32::MAX] {
+    for number in [0, 20, 21, 26, 30, u32::MAX] {
         assert_eq!(Refusal::from_number(number), None);
     }
     let error: Box<dyn std::error::Error + Send + Sync> = Refusal::Trim.into();

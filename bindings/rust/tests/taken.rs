@@ -5,9 +5,9 @@ mod common;
 mod lent;
 
 use common::{RECORDING, recording};
-use huntelm::archive::{BLOCK, BLOCK_COUNT, BLOCK_TAKEN, STATE, SYMBOL};
+use huntelm::archive::{BLOCK, BLOCK_COUNT, BLOCK_TAKEN, SYMBOL};
 use huntelm::{Params, Refusal};
-use lent::{fresh, lent};
+use lent::{State, fresh, lent};
 
 /// The place of a state that has the samples so far.
 const SAMPLES: usize = 9;
@@ -24,14 +24,14 @@ const TOO_MANY: u32 = Refusal::TooManySamples as u32;
 #[derive(Debug, Clone, PartialEq)]
 struct After {
     number: u32,
-    state: [i64; STATE],
+    state: State,
     out: Vec<i64>,
     answer: Vec<i64>,
 }
 
 impl After {
     /// What a call leaves that is refused so on this state.
-    fn refused(number: u32, state: &[i64; STATE], places: usize, room: usize) -> Self {
+    fn refused(number: u32, state: &State, places: usize, room: usize) -> Self {
         Self {
             number,
             state: *state,
@@ -50,15 +50,19 @@ impl After {
 }
 
 /// A block on this state, with so many places for symbols and so many for the answer.
-fn block(p: &Params, state: &[i64; STATE], values: &[i16], places: usize, room: usize) -> After {
+fn block(p: &Params, state: &State, values: &[i16], places: usize, room: usize) -> After {
     let mut after = After::refused(NONE, state, places, room);
-    after.number =
-        lent(p, &p.places()).block(&mut after.state, values, &mut after.out, &mut after.answer);
+    after.number = lent(p, &p.places()).block(
+        (&mut after.state).into(),
+        values,
+        &mut after.out,
+        &mut after.answer,
+    );
     after
 }
 
 /// Offers the values, and then what is left of them, until nothing is: the symbols, and the end state.
-fn run(p: &Params, values: &[i16], places: usize) -> (Vec<i64>, [i64; STATE]) {
+fn run(p: &Params, values: &[i16], places: usize) -> (Vec<i64>, State) {
     let (mut state, mut left, mut symbols) = (fresh(p), values, Vec::new());
     while !left.is_empty() {
         let after = block(p, &state, left, places, BLOCK);
@@ -78,15 +82,15 @@ fn sheet_and_values() -> (Params, Vec<i16>) {
 }
 
 /// A state of a run that is under way, and the values that follow.
-fn under_way(p: &Params, values: &[i16]) -> ([i64; STATE], Vec<i16>) {
+fn under_way(p: &Params, values: &[i16]) -> (State, Vec<i16>) {
     let (head, tail) = values.split_at(2 * 50);
     (run(p, head, 20 * 50).1, tail.to_vec())
 }
 
 /// Near the end of what can be counted: so many samples are left.
-fn late(p: &Params, left: i64) -> [i64; STATE] {
+fn late(p: &Params, left: i64) -> State {
     let mut state = fresh(p);
-    state[SAMPLES] = i64::MAX - left;
+    state.places[SAMPLES] = i64::MAX - left;
     state
 }
 
@@ -97,7 +101,10 @@ fn what_is_left_offered_again_makes_the_same_run() {
     let whole = run(&p, &values, enough);
     let (symbols, state) = &whole;
     assert_eq!(block(&p, &fresh(&p), &values, enough, BLOCK).taken(), 1500);
-    assert_eq!((symbols.len() / SYMBOL, state[SAMPLES]), (1083, 1500));
+    assert_eq!(
+        (symbols.len() / SYMBOL, state.places[SAMPLES]),
+        (1083, 1500)
+    );
     let long = [100, 399, 400, 401, 1999, 20_000, enough - 1, enough + 19];
     for places in (20..=45).chain(long) {
         assert!(run(&p, &values, places) == whole, "{places} places");
@@ -142,7 +149,10 @@ fn a_short_block_is_the_block_of_its_first_pairs() {
             assert_eq!(after, first, "{pairs} pairs, {places} places");
             let behind = &after.out[after.symbols().len()..];
             assert!(behind.iter().all(|n| *n == MARK));
-            assert_eq!(after.state[SAMPLES], state[SAMPLES] + taken as i64);
+            assert_eq!(
+                after.state.places[SAMPLES],
+                state.places[SAMPLES] + taken as i64
+            );
         }
     }
 }
@@ -239,7 +249,10 @@ fn too_many_samples() {
                     assert_eq!(after, After::refused(TOO_MANY, &state, places, BLOCK));
                 } else {
                     assert_eq!((after.number, after.taken()), (NONE, taken));
-                    assert_eq!(after.state[SAMPLES], state[SAMPLES] + taken as i64);
+                    assert_eq!(
+                        after.state.places[SAMPLES],
+                        state.places[SAMPLES] + taken as i64
+                    );
                 }
             }
         }
@@ -275,7 +288,7 @@ fn sheet_and_state_come_first() {
     let (p, values) = sheet_and_values();
     let state = fresh(&p);
     let mut broken = state;
-    broken[SAMPLES] = -1;
+    broken.places[SAMPLES] = -1;
     let refused = Params {
         delay: 0,
         ..p.clone()

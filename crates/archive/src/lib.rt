@@ -42,11 +42,11 @@ pub extern "C" fn huntelm_block(
     answer: &mut [i64],
 ) -> u32
     ensures { λ r. ⌜ record {
-          number = r;
-          state = slices (now (state .exit)) (now (line .exit)) (now (errors .exit));
-          output = now (out .exit);
-          answer = now (answer .exit);
-        }
+      number = r;
+      state = slices (now (state .exit)) (now (line .exit)) (now (errors .exit));
+      output = now (out .exit);
+      answer = now (answer .exit);
+    }
         ≡ blockAnswer (now (sheet .entry)) (now (h .entry)) (now (g .entry)) (now (k .entry))
         (slices (now (state .entry)) (now (line .entry)) (now (errors .entry))) (now (values .entry)) (now (out .entry)) (now (answer .entry)) ⌝ }
 {

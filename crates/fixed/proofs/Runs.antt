@@ -30,7 +30,7 @@ module _ (s : Sheet) where
       ∙ sym (append-assoc (madeBy s f x) (emitted s (next s f x) xs) (emitted s (after s (next s f x) xs) ys))
 
   -- each sample counts itself
-  next-samples : (f : Frontend) (x : Pair) → next s f x .samples ≡ f .samples + 1
+  pub next-samples : (f : Frontend) (x : Pair) → next s f x .samples ≡ f .samples + 1
   unfolding next joined withSymbol withoutSymbol
   next-samples f x = go (falls f) refl
     where

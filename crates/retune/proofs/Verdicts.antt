@@ -1,7 +1,8 @@
 -- What a retune answers, and what its answer tells of the faults. Each fault has a number other than 0, so an answer of "accepted" says that there is none.
 use Prim.Native.Nat.{ℕ, _<_}
-use mathlib.Core.Path.{_≡_, sym, ap, _∙_}
+use mathlib.Core.Path.{_≡_, refl, sym, ap, _∙_}
 use mathlib.Core.Logic.{inl, inr}
+use mathlib.Core.Bool.{true}
 use mathlib.Core.List.{List, [], _∷_, flatten}
 use native.Mathlib.Omega.{arith}
 use lib.Dec.{eqb, lit<}
@@ -11,11 +12,14 @@ use Rattle.params.specs.declared.Params.{Params as Fields}
 use Rattle.params.specs.Refusal.{Refusal, refusal, firstOf}
 use Rattle.params.specs.Judge.{Sheet, faults}
 use Rattle.params.proofs.Faults.{Numbered, numbered-append, numbered-unless, first-none, error-numbered, faults-numbered}
+use Rattle.params.proofs.Faults.{kept, none-at, none-left, none-right}
+use borrow.Author.Tests.{eq-eqb, eqb-true}
 use Rattle.state.specs.declared.Frontend.{Frontend}
+use Rattle.state.specs.Check.{goodState}
 use Rattle.retune.specs.declared.RetuneVerdict.{RetuneVerdict}
 use Rattle.retune.specs.declared.RetuneVerdict.the-variants.{Accepted, Params, State, Taps, Ticket}
 use Rattle.retune.specs.Refusal.{retuneRefusal}
-use Rattle.retune.specs.Retune.{heldFaults, askFaults, commitFaults}
+use Rattle.retune.specs.Retune.{heldFaults, askFaults, commitFaults, askOf, commitOf}
 use Rattle.retune.proofs.RetuneVerdict as verdict
 
 -- ---- faults are numbered
@@ -52,3 +56,46 @@ refuses (Params e) k = error-numbered e
 refuses State k = lit< tt
 refuses Taps k = lit< tt
 refuses Ticket k = lit< tt
+
+-- ---- where there is no fault
+
+-- what a state and a sheet have where asking refuses nothing
+pub record Retunes (s : Sheet) (f : Frontend) : Type 0 where
+  pub judged-so : faults s ≡ []
+  pub delay : s .params .delay ≡ f .params .delay
+  pub good : goodState (s .params) f ≡ true
+  pub taps : s .params .taps ≡ f .params .taps
+
+pub retunes : (s : Sheet) (f : Frontend) → askFaults s f ≡ [] → Retunes s f
+unfolding askFaults heldFaults
+retunes s f e =
+    let rest : heldFaults (s .params) f ≡ [] = none-right (faults s) _ e in
+    record {
+      judged-so = none-left (faults s) _ e;
+      delay = eqb-true _ _ (kept _ _ (none-at _ rest 0));
+      good = kept _ _ (none-at _ rest 1);
+      taps = eqb-true _ _ (kept _ _ (none-at _ rest 2));
+    }
+
+-- and back
+pub no-ask-faults : (s : Sheet) (f : Frontend) → Retunes s f → askFaults s f ≡ []
+unfolding askFaults heldFaults flatten
+no-ask-faults s f r = rw (r .judged-so, eq-eqb _ _ (r .delay), r .good, eq-eqb _ _ (r .taps)) refl
+
+-- an answer of 0 tells that there is none
+pub asked-none : (s : Sheet) (f : Frontend) → askOf s f .refused .number ≡ 0 → askFaults s f ≡ []
+unfolding askOf
+asked-none s f e = first-none (askFaults s f) (ask-numbered s f) e
+
+pub committed-none : (s : Sheet) (ticket : ℕ) (f : Frontend) → commitOf s ticket f .refused .number ≡ 0 → askFaults s f ≡ []
+unfolding commitOf commitFaults
+committed-none s ticket f e = none-left (askFaults s f) _ (first-none (commitFaults s ticket f) (commit-numbered s ticket f) e)
+
+-- a commit is refused nothing where asking is not, and the ticket is the number of symbols
+pub commits-none : (s : Sheet) (ticket : ℕ) (f : Frontend) → askFaults s f ≡ [] → ticket ≡ f .registers .symbols → commitOf s ticket f .refused .number ≡ 0
+unfolding commitOf commitFaults
+commits-none s ticket f none e = rw (none, eq-eqb ticket (f .registers .symbols) e) refl
+
+pub ticket-is : (s : Sheet) (f : Frontend) → askOf s f .refused .number ≡ 0 → askOf s f .ticket ≡ f .registers .symbols
+unfolding askOf
+ticket-is s f e = rw (eq-eqb (firstOf (askFaults s f) .number) 0 e) refl

@@ -1,106 +1,146 @@
--- A list of block calls is one run over the samples that its calls took: a call is a run over its first pairs, as many as it took, and a refused one took none.
--- So its end state, its symbols, their count and their clips are that run's, whatever the blocks and refusals were.
-use Prim.Native.Nat.{ℕ, _*_}
+-- What a call does is what a run over the samples that it took does: a block takes its first pairs, as many as it answers, and a refused one took none; a commit
+-- takes none, and changes the held sheet alone. So what a list of calls wrote, counted and clipped is that of the symbols that its blocks made, one after another.
+use Prim.Native.Nat.{ℕ, _+_, _*_}
 use mathlib.Core.Path.{_≡_, refl, sym, ap, _∙_}
 use mathlib.Core.Bool.{Bool, true, false, cond}
 use mathlib.Core.List.{List, [], _∷_, _++_}
+use native.Mathlib.Omega.{arith}
 use lib.Dec.{eqb}
 use lib.ListN.{length, take, drop, length-append}
 use lib.Seq.{take-at}
+use lib.IntN.{ℤ}
+use borrow.Author.Tests.{eqb-true}
 use Rattle.params.specs.Refusal.{firstOf}
 use Rattle.params.specs.Judge.{Sheet}
 use Rattle.state.specs.declared.Pair.{Pair}
 use Rattle.state.specs.declared.Frontend.{Frontend}
 use Rattle.symbol.specs.declared.Symbol.{Symbol}
-use Rattle.fixed.specs.Sample.{after, emitted}
 use Rattle.state.specs.Check.{pairsTaken, blockFaults}
+use Rattle.retune.specs.Retune.{retuned, commitFaults, commitOf}
+use Rattle.fixed.specs.Sample.{after, emitted}
 use Rattle.fixed.specs.Block.{pairsOf, flattened, clipsOf, accepted, blockOf}
-use Rattle.timing.specs.Lists.{Call, answer, stateAfter, takenBy, taken, written, counted, clipped}
-use Rattle.fixed.proofs.Runs.{after-append, emitted-append, flattened-append, length-flattened, clips-append}
+use Rattle.fixed.proofs.Runs.{flattened-append, length-flattened, clips-append, run-samples}
+use Rattle.timing.specs.Lists.{Call, block, commit, stateBy, takenBy, writtenBy, countedBy, clippedBy, stateAfter, taken, written, counted, clipped}
 
-module _ (s : Sheet) where
-  abbrev pub number : Frontend → Call → ℕ
-  number f c = firstOf (blockFaults s f (length (c .values)) (length (c .out))) .number
+-- ---- a block
 
-  -- an answer, once its refusal's number is known to be 0 or not
-  pub answer-is : (f : Frontend) (c : Call) (b : Bool) → eqb (number f c) 0 ≡ b
-      → answer s f c ≡ cond b (accepted s f (c .values) (c .out))
-      (record { refused = firstOf (blockFaults s f (length (c .values)) (length (c .out))); state = f; taken = 0; count = 0; clips = 0; output = c .out })
+module _ (s : Sheet) (f : Frontend) (values out : List ℤ) where
+  abbrev pub blockNumber : ℕ
+  blockNumber = firstOf (blockFaults s f (length values) (length out)) .number
+
+  -- its answer, once its refusal's number is known to be 0 or not
+  pub answer-is : (b : Bool) → eqb blockNumber 0 ≡ b
+      → blockOf s f values out ≡ cond b (accepted s f values out)
+      (record { refused = firstOf (blockFaults s f (length values) (length out)); state = f; taken = 0; count = 0; clips = 0; output = out })
   unfolding blockOf
-  answer-is f c b e = rw e
+  answer-is b e = rw e
 
-  -- ---- one call
+  abbrev pub pairsOfBlock : List Pair
+  pairsOfBlock = take (blockOf s f values out .taken) (pairsOf values)
 
-  one-state : (f : Frontend) (c : Call) → answer s f c .state ≡ after s f (takenBy s f c)
+  pub block-state : blockOf s f values out .state ≡ after s f pairsOfBlock
   unfolding accepted after
-  one-state f c = go (eqb (number f c) 0) refl
+  block-state = go (eqb blockNumber 0) refl
     where
-      go : (b : Bool) → eqb (number f c) 0 ≡ b → answer s f c .state ≡ after s f (takenBy s f c)
-      go true e = rw (answer-is f c true e)
-      go false e = rw (answer-is f c false e)
+      go : (b : Bool) → eqb blockNumber 0 ≡ b → blockOf s f values out .state ≡ after s f pairsOfBlock
+      go true e = rw (answer-is true e)
+      go false e = rw (answer-is false e)
 
-  one-count : (f : Frontend) (c : Call) → answer s f c .count ≡ length (emitted s f (takenBy s f c))
+  pub block-count : blockOf s f values out .count ≡ length (emitted s f pairsOfBlock)
   unfolding accepted emitted
-  one-count f c = go (eqb (number f c) 0) refl
+  block-count = go (eqb blockNumber 0) refl
     where
-      go : (b : Bool) → eqb (number f c) 0 ≡ b → answer s f c .count ≡ length (emitted s f (takenBy s f c))
-      go true e = rw (answer-is f c true e)
-      go false e = rw (answer-is f c false e)
+      go : (b : Bool) → eqb blockNumber 0 ≡ b → blockOf s f values out .count ≡ length (emitted s f pairsOfBlock)
+      go true e = rw (answer-is true e)
+      go false e = rw (answer-is false e)
 
-  one-clips : (f : Frontend) (c : Call) → answer s f c .clips ≡ clipsOf (emitted s f (takenBy s f c))
+  block-clips : blockOf s f values out .clips ≡ clipsOf (emitted s f pairsOfBlock)
   unfolding accepted emitted clipsOf
-  one-clips f c = go (eqb (number f c) 0) refl
+  block-clips = go (eqb blockNumber 0) refl
     where
-      go : (b : Bool) → eqb (number f c) 0 ≡ b → answer s f c .clips ≡ clipsOf (emitted s f (takenBy s f c))
-      go true e = rw (answer-is f c true e)
-      go false e = rw (answer-is f c false e)
+      go : (b : Bool) → eqb blockNumber 0 ≡ b → blockOf s f values out .clips ≡ clipsOf (emitted s f pairsOfBlock)
+      go true e = rw (answer-is true e)
+      go false e = rw (answer-is false e)
 
-  one-output : (f : Frontend) (c : Call) → take (20 * answer s f c .count) (answer s f c .output) ≡ flattened (emitted s f (takenBy s f c))
+  block-output : take (20 * blockOf s f values out .count) (blockOf s f values out .output) ≡ flattened (emitted s f pairsOfBlock)
   unfolding accepted emitted flattened
-  one-output f c = go (eqb (number f c) 0) refl
+  block-output = go (eqb blockNumber 0) refl
     where
-      go : (b : Bool) → eqb (number f c) 0 ≡ b → take (20 * answer s f c .count) (answer s f c .output) ≡ flattened (emitted s f (takenBy s f c))
+      go : (b : Bool) → eqb blockNumber 0 ≡ b
+          → take (20 * blockOf s f values out .count) (blockOf s f values out .output) ≡ flattened (emitted s f pairsOfBlock)
       go true e =
-          let n : ℕ = pairsTaken (length (c .values)) (length (c .out)) in
-          let ys : List Symbol = emitted s f (take n (pairsOf (c .values))) in
-          rw (answer-is f c true e) (take-at (flattened ys) (drop (20 * length ys) (c .out)) (20 * length ys) (length-flattened ys))
-      go false e = rw (answer-is f c false e)
+          let n : ℕ = pairsTaken (length values) (length out) in
+          let ys : List Symbol = emitted s f (take n (pairsOf values)) in
+          rw (answer-is true e) (take-at (flattened ys) (drop (20 * length ys) out) (20 * length ys) (length-flattened ys))
+      go false e = rw (answer-is false e)
 
-  -- ---- a list of calls
+-- ---- a commit
 
-  pub calls-state : (f : Frontend) (cs : List Call) → stateAfter s f cs ≡ after s f (taken s f cs)
-  unfolding stateAfter taken after
-  calls-state f [] = refl
-  calls-state f (c ∷ cs) =
-      let g : Frontend = answer s f c .state in
-      let rest : List Pair = taken s g cs in
-      calls-state g cs ∙ ap (λ (q : Frontend). after s q rest) (one-state f c) ∙ sym (after-append s f (takenBy s f c) rest)
+-- the state that it hands back, once its refusal's number is known to be 0 or not
+pub commit-state : (s : Sheet) (ticket : ℕ) (f : Frontend) (b : Bool) → eqb (commitOf s ticket f .refused .number) 0 ≡ b
+    → commitOf s ticket f .state ≡ cond b (retuned (s .params) f) f
+unfolding commitOf
+commit-state s ticket f b e = rw e
 
-  -- the symbols of the run are those of the first call and then of the others
-  parts : (f : Frontend) (c : Call) (cs : List Call)
-      → emitted s f (takenBy s f c ++ taken s (answer s f c .state) cs)
-      ≡ emitted s f (takenBy s f c) ++ emitted s (answer s f c .state) (taken s (answer s f c .state) cs)
-  parts f c cs =
-      let rest : List Pair = taken s (answer s f c .state) cs in
-      emitted-append s f (takenBy s f c) rest ∙ ap (λ (q : Frontend). emitted s f (takenBy s f c) ++ emitted s q rest) (sym (one-state f c))
+-- ---- the symbols of a call, and of calls
 
-  pub calls-written : (f : Frontend) (cs : List Call) → written s f cs ≡ flattened (emitted s f (taken s f cs))
-  unfolding written taken emitted flattened
-  calls-written f [] = refl
-  calls-written f (c ∷ cs) =
-      let g : Frontend = answer s f c .state in
-      rw (one-output f c, calls-written g cs, parts f c cs) (sym (flattened-append (emitted s f (takenBy s f c)) (emitted s g (taken s g cs))))
+abbrev pub madeByCall : Frontend → Call → List Symbol
+madeByCall f (block s values out) = emitted s f (pairsOfBlock s f values out)
+madeByCall f (commit s ticket) = []
 
-  pub calls-counted : (f : Frontend) (cs : List Call) → counted s f cs ≡ length (emitted s f (taken s f cs))
-  unfolding counted taken emitted
-  calls-counted f [] = refl
-  calls-counted f (c ∷ cs) =
-      let g : Frontend = answer s f c .state in
-      rw (one-count f c, calls-counted g cs, parts f c cs) (sym (length-append (emitted s f (takenBy s f c)) (emitted s g (taken s g cs))))
+unfoldable pub madeIn : Frontend → List Call → List Symbol
+madeIn f [] = []
+madeIn f (c ∷ cs) = madeByCall f c ++ madeIn (stateBy f c) cs
 
-  pub calls-clipped : (f : Frontend) (cs : List Call) → clipped s f cs ≡ clipsOf (emitted s f (taken s f cs))
-  unfolding clipped taken emitted clipsOf
-  calls-clipped f [] = refl
-  calls-clipped f (c ∷ cs) =
-      let g : Frontend = answer s f c .state in
-      rw (one-clips f c, calls-clipped g cs, parts f c cs) (sym (clips-append (emitted s f (takenBy s f c)) (emitted s g (taken s g cs))))
+call-written : (f : Frontend) (c : Call) → writtenBy f c ≡ flattened (madeByCall f c)
+unfolding flattened
+call-written f (block s values out) = block-output s f values out
+call-written f (commit s ticket) = refl
+
+call-counted : (f : Frontend) (c : Call) → countedBy f c ≡ length (madeByCall f c)
+call-counted f (block s values out) = block-count s f values out
+call-counted f (commit s ticket) = refl
+
+call-clipped : (f : Frontend) (c : Call) → clippedBy f c ≡ clipsOf (madeByCall f c)
+unfolding clipsOf
+call-clipped f (block s values out) = block-clips s f values out
+call-clipped f (commit s ticket) = refl
+
+pub calls-written : (f : Frontend) (cs : List Call) → written f cs ≡ flattened (madeIn f cs)
+unfolding written madeIn flattened
+calls-written f [] = refl
+calls-written f (c ∷ cs) =
+    rw (call-written f c, calls-written (stateBy f c) cs) (sym (flattened-append (madeByCall f c) (madeIn (stateBy f c) cs)))
+
+pub calls-counted : (f : Frontend) (cs : List Call) → counted f cs ≡ length (madeIn f cs)
+unfolding counted madeIn
+calls-counted f [] = refl
+calls-counted f (c ∷ cs) =
+    rw (call-counted f c, calls-counted (stateBy f c) cs) (sym (length-append (madeByCall f c) (madeIn (stateBy f c) cs)))
+
+pub calls-clipped : (f : Frontend) (cs : List Call) → clipped f cs ≡ clipsOf (madeIn f cs)
+unfolding clipped madeIn clipsOf
+calls-clipped f [] = refl
+calls-clipped f (c ∷ cs) =
+    rw (call-clipped f c, calls-clipped (stateBy f c) cs) (sym (clips-append (madeByCall f c) (madeIn (stateBy f c) cs)))
+
+-- ---- the samples that were counted
+
+-- a commit counts none
+pub commit-samples : (s : Sheet) (ticket : ℕ) (f : Frontend) → commitOf s ticket f .state .samples ≡ f .samples
+unfolding retuned
+commit-samples s ticket f = go (eqb (commitOf s ticket f .refused .number) 0) refl
+  where
+    go : (b : Bool) → eqb (commitOf s ticket f .refused .number) 0 ≡ b → commitOf s ticket f .state .samples ≡ f .samples
+    go true e = rw (commit-state s ticket f true e)
+    go false e = rw (commit-state s ticket f false e)
+
+pub call-samples : (f : Frontend) (c : Call) → stateBy f c .samples ≡ f .samples + length (takenBy f c)
+call-samples f (block s values out) = rw (block-state s f values out) (run-samples s f (pairsOfBlock s f values out))
+call-samples f (commit s ticket) = omega (arith, commit-samples s ticket f)
+
+pub calls-samples : (f : Frontend) (cs : List Call) → stateAfter f cs .samples ≡ f .samples + length (taken f cs)
+unfolding stateAfter taken
+calls-samples f [] = omega arith
+calls-samples f (c ∷ cs) =
+    omega (arith, calls-samples (stateBy f c) cs, call-samples f c, length-append (takenBy f c) (taken (stateBy f c) cs))

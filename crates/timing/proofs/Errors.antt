@@ -1,6 +1,6 @@
 -- The errors of a run's symbols, and the loop that they make: its integrator, period and gain are what the errors of earlier symbols, one after the other,
--- make of the first ones. However many errors there were, each of the three stays within its clamp.
-use Prim.Native.Nat.{ℕ, zero, suc, _+_, _<_}
+-- make of the first ones, each under the sheet in force where it is applied. So as many errors count as there are such sheets.
+use Prim.Native.Nat.{ℕ, zero, suc, _+_, _≤_, _<_}
 use mathlib.Core.Path.{_≡_, refl, ap}
 use mathlib.Core.List.{List, [], _∷_, _++_}
 use native.Mathlib.Omega.{arith}
@@ -11,7 +11,8 @@ use Rattle.params.specs.declared.Params.{Params}
 use Rattle.params.proofs.Accepted.{GoodPeriods, GoodFields}
 use Rattle.registers.specs.declared.Pending.{Pending}
 use Rattle.symbol.specs.declared.Symbol.{Symbol}
-use Rattle.registers.proofs.Loops.{Loop, moved, Within, end-whole, moved-within}
+use Rattle.state.specs.Start.{noPending}
+use Rattle.registers.proofs.Loops.{Loop, moved, Within, end-whole}
 
 -- ---- what a run's symbols leave: their periods' sum, and their errors
 
@@ -53,34 +54,38 @@ errors-take (suc n) (y ∷ ys) = ap (λ (l : List Pending). errorsOf y ∷ l) (e
 
 -- ---- the loop, moved
 
--- by one error after the other, from the fresh ones
-unfoldable pub movedBy : Params → Loop → List Pending → Loop
-movedBy p l [] = l
-movedBy p l (w ∷ ws) = movedBy p (moved p l w) ws
+-- by one error after the other, each under the sheet of the symbol at which it is applied
+unfoldable pub movedBy : Loop → List Params → List Pending → Loop
+movedBy l [] ws = l
+movedBy l (p ∷ ps) [] = l
+movedBy l (p ∷ ps) (w ∷ ws) = movedBy (moved p l w) ps ws
 
 abbrev pub freshLoop : Params → Loop
 freshLoop p = record { v = pos 0; period = p .«period_nominal»; gain = p .«agc_init» }
 
-pub movedBy-snoc : (p : Params) (l : Loop) (ws : List Pending) (w : Pending) → movedBy p l (ws ++ (w ∷ [])) ≡ moved p (movedBy p l ws) w
+-- one sheet more, and with it the error that is next
+pub movedBy-next : (l : Loop) (ps : List Params) (p : Params) (ws : List Pending) → length ps < length ws
+    → movedBy l (ps ++ (p ∷ [])) ws ≡ moved p (movedBy l ps ws) (getD ws (length ps) noPending)
 unfolding movedBy
-movedBy-snoc p l [] w = refl
-movedBy-snoc p l (x ∷ ws) w = movedBy-snoc p (moved p l x) ws w
+movedBy-next l [] p [] h = absurd (omega arith)
+movedBy-next l [] p (w ∷ ws) h = refl
+movedBy-next l (q ∷ ps) p [] h = absurd (omega arith)
+movedBy-next l (q ∷ ps) p (w ∷ ws) h = movedBy-next (moved q l w) ps p ws (omega arith)
 
--- ---- it stays within its clamps
+-- only as many errors count as there are sheets
+pub movedBy-take : (l : Loop) (ps : List Params) (ws : List Pending) (n : ℕ) → length ps ≤ n → movedBy l ps (take n ws) ≡ movedBy l ps ws
+unfolding movedBy
+movedBy-take l [] ws n h = refl
+movedBy-take l (p ∷ ps) ws zero h = absurd (omega arith)
+movedBy-take l (p ∷ ps) [] (suc n) h = refl
+movedBy-take l (p ∷ ps) (w ∷ ws) (suc n) h = movedBy-take (moved p l w) ps ws n (omega arith)
 
-module _ (p : Params) (k : GoodPeriods p) (f : GoodFields p) where
-  fresh-within : Within p (freshLoop p)
-  fresh-within = record {
-    v = end-whole p k f (f .integrator .0) (f .integrator .1) .0;
-    low = k .low;
-    high = k .high;
-    gain = f .agc-init;
-  }
+-- ---- it begins within its clamps
 
-  pub movedBy-within : (l : Loop) (ws : List Pending) → Within p l → Within p (movedBy p l ws)
-  unfolding movedBy
-  movedBy-within l [] i = i
-  movedBy-within l (w ∷ ws) i = movedBy-within (moved p l w) ws (moved-within p k f l w)
-
-  pub loop-within : (ws : List Pending) → Within p (movedBy p (freshLoop p) ws)
-  loop-within ws = movedBy-within (freshLoop p) ws fresh-within
+pub fresh-within : (p : Params) → GoodPeriods p → GoodFields p → Within p (freshLoop p)
+fresh-within p k f = record {
+  v = end-whole p k f (f .integrator .0) (f .integrator .1) .0;
+  low = k .low;
+  high = k .high;
+  gain = f .agc-init;
+}

@@ -1,38 +1,32 @@
--- A list of block calls never meets refusal 9. The invariant of runs gives each test that a block makes of a state: the registers stay within their clamps,
--- the positions within the line and the queue, and there is at most one symbol a sample. So only what a call brings itself, 10 to 12, can refuse it.
+-- Behind a list, 9 says that the sheet is another than the held one, and nothing else. The invariant gives each test that a call makes of a state: the registers
+-- stay within the held sheet's clamps, the positions within the line and the queue, and there is at most one symbol a sample. So under the held sheet only what a
+-- block brings itself, 10 to 12, can refuse it; and under another the comparison of the two sheets fails.
 use Prim.Native.Nat.{ℕ, _+_, _%_, _≤_}
-use mathlib.Core.Path.{_≡_, refl, sym, ap, _∙_, subst}
+use mathlib.Core.Path.{_≡_, refl, sym, ap, subst, _∙_}
 use mathlib.Core.Logic.{_⊎_, inl, inr}
-use mathlib.Core.Bool.{Bool, true, false, _||_}
-use mathlib.Core.List.{List, [], _++_, flatten}
+use mathlib.Core.Bool.{Bool, true, false, _&&_, _||_}
+use mathlib.Core.List.{List, [], _∷_, _++_, flatten}
 use native.Mathlib.Omega.{arith}
 use lib.Dec.{eqb, leb}
 use lib.ListN.{length}
+use lib.IntN.{ℤ}
+use Rattle.arith.proofs.Both.{and-both}
+use Rattle.params.specs.declared.Params.{Params}
 use Rattle.params.specs.Refusal.{Refusal, refusal, nothing, unless, firstOf}
-use Rattle.params.specs.Judge.{Sheet, faults}
-use Rattle.params.proofs.Accepted.{Accepted, judged-none, no-faults}
+use Rattle.params.specs.Judge.{Sheet, faults, judged}
+use Rattle.params.proofs.Accepted.{judged-none}
+use Rattle.fields.specs.Fields.{sameFields}
+use Rattle.fields.proofs.Same.{equal-sheets, same-sheet}
 use Rattle.state.specs.declared.Frontend.{Frontend}
-use Rattle.symbol.specs.declared.Symbol.{Symbol}
 use Rattle.state.specs.Start.{startOf}
-use Rattle.state.specs.Check.{goodState, stateFaults, pairsTaken, sizeFaults, blockFaults}
+use Rattle.state.specs.Check.{goodState, canGoOn, stateFaults, pairsTaken, sizeFaults, blockFaults}
+use Rattle.state.specs.Read.{readOf}
+use Rattle.state.proofs.Going.{Going, good}
+use Rattle.fixed.specs.Block.{blockOf}
 use Rattle.fixed.proofs.Refused.{number-first}
 use Rattle.timing.specs.Lists.{Call, endState}
-use Rattle.timing.specs.Timing.{StatesGoOn}
-use Rattle.state.proofs.Going.{Going, good}
-use Rattle.timing.proofs.Invariant.{sheetDelay, Inv, loopAt-within}
-use Rattle.timing.proofs.Timing.{ends-inv}
-
--- a state that a run has led to
-going : (s : Sheet) (a : Accepted s) (f : Frontend) (S : List Symbol) → Inv s f S → Going (s .params) f
-going s a f S i = record {
-  head = i .head;
-  whole = i .whole;
-  soon = omega arith;
-  loop = rw (i .loop) (loopAt-within s a S (sheetDelay s));
-  waiting = rw (i .symbols) (i .waiting);
-  oldest = omega arith;
-  few = omega arith;
-}
+use Rattle.timing.specs.Timing.{GoesOn, StatesGoOn}
+use Rattle.timing.proofs.Timing.{ends-going}
 
 -- no refusal, or one of 10 to 12
 abbrev Own : ℕ → Type 0
@@ -51,20 +45,51 @@ own l e f values places =
     by true true false = inr (omega arith, omega arith)
     by true true true = inl refl
 
--- a sheet and a state without a fault
-pub no-state-faults : (s : Sheet) (f : Frontend) → faults s ≡ [] → goodState (s .params) f ≡ true → stateFaults s f ≡ []
-no-state-faults s f none g =
-    ap (λ (l : List Refusal). l ++ unless (goodState (s .params) f) (refusal 9 [])) none ∙ ap (λ (b : Bool). unless b (refusal 9 [])) g
+module _ (t : Sheet) (f : Frontend) (clean : faults t ≡ []) where
+  -- ---- the held sheet
 
--- the state that a list hands back
-pub ends-going : (s : Sheet) → startOf s .refused ≡ nothing → (cs : List Call) → Going (s .params) (endState s cs)
-unfolding startOf
-ends-going s ok cs = going s (no-faults s (judged-none s ok)) (endState s cs) _ (ends-inv s ok cs)
+  -- a state that a block can go on from, under the sheet that it holds
+  pub no-state-faults : t .params ≡ f .params → Going (f .params) f → stateFaults t f ≡ []
+  unfolding canGoOn
+  no-state-faults e g =
+      let under : goodState (t .params) f ≡ true = good (t .params) f (subst (λ (p : Params). Going p f) (sym e) g) in
+      let same : sameFields (t .params) (f .params) ≡ true = ap (sameFields (t .params)) (sym e) ∙ same-sheet (t .params) in
+      rw (clean, and-both same under) refl
+
+  blocks : t .params ≡ f .params → Going (f .params) f → (values out : List ℤ) → Own (blockOf t f values out .refused .number)
+  unfolding blockFaults
+  blocks e g values out = rw (number-first t f values out) (own (stateFaults t f) (no-state-faults e g) f (length values) (length out))
+
+  reads : t .params ≡ f .params → Going (f .params) f → readOf t f .refused .number ≡ 0
+  unfolding readOf
+  reads e g = rw (no-state-faults e g) refl
+
+  -- ---- another sheet
+
+  nine : (t .params ≡ f .params → ⊥) → stateFaults t f ≡ refusal 9 [] ∷ []
+  unfolding canGoOn
+  nine other = go (sameFields (t .params) (f .params)) refl
+    where
+      go : (b : Bool) → sameFields (t .params) (f .params) ≡ b → stateFaults t f ≡ refusal 9 [] ∷ []
+      go true e = absurd (other (equal-sheets (t .params) (f .params) e))
+      go false e = rw (clean, e) refl
+
+  other-blocks : (t .params ≡ f .params → ⊥) → (values out : List ℤ) → blockOf t f values out .refused .number ≡ 9
+  unfolding blockFaults
+  other-blocks other values out = rw (number-first t f values out, nine other) refl
+
+  other-reads : (t .params ≡ f .params → ⊥) → readOf t f .refused .number ≡ 9
+  unfolding readOf
+  other-reads other = rw (nine other) refl
 
 pub states-go-on : StatesGoOn
-unfolding startOf blockFaults
-states-go-on s ok cs c =
+states-go-on s ok cs t accepted =
     let f : Frontend = endState s cs in
-    let e : stateFaults s f ≡ [] = no-state-faults s f (judged-none s ok) (good (s .params) f (ends-going s ok cs)) in
-    subst Own (sym (number-first s f (c .values) (c .out)))
-    (own (stateFaults s f) e f (length (c .values)) (length (c .out)))
+    let clean : faults t ≡ [] = judged-none t accepted in
+    let g : Going (f .params) f = ends-going s ok cs in
+    record {
+      blocks = λ e. blocks t f clean e g;
+      reads = λ e. reads t f clean e g;
+      other-blocks = other-blocks t f clean;
+      other-reads = other-reads t f clean;
+    }

@@ -1,3 +1,3 @@
--- Lists of block calls, and what is claimed of them.
+-- Lists of blocks and commits, and what is claimed of them.
 pub mod Lists
 pub mod Timing

@@ -1,58 +1,109 @@
--- Lists of block calls: each call is given the state that the one before it handed back, whether that was refused or not.
+-- Lists of calls on a state: blocks and commits, in any order. Each call is given the state that the one before it handed back, whether that was refused or not.
 -- (RULES 5.1)
 use Prim.Native.Nat.{ℕ, _+_, _*_}
+use mathlib.Core.Path.{_≡_}
+use mathlib.Core.Bool.{cond}
 use mathlib.Core.List.{List, [], _∷_, _++_}
-use lib.ListN.{take, drop}
+use lib.Dec.{eqb}
+use lib.ListN.{length, take, drop}
 use lib.IntN.{ℤ}
 use Rattle.params.specs.Judge.{Sheet}
 use Rattle.state.specs.declared.Pair.{Pair}
 use Rattle.state.specs.declared.Frontend.{Frontend}
 use Rattle.state.specs.Start.{startOf}
-use Rattle.fixed.specs.Block.{Block, pairsOf, blockOf}
+use Rattle.retune.specs.Retune.{commitOf}
+use Rattle.fixed.specs.Block.{pairsOf, blockOf}
 
--- A call's sample values and its output buffer: any of either.
-pub record Call : Type 0 where
-  pub values : List ℤ
-  pub out : List ℤ
+-- A block is given a sheet with its banks, sample values and an output buffer, a commit a sheet with its banks and a ticket: any of each.
+pub data Call : Type 0 where
+  block : Sheet → List ℤ → List ℤ → Call
+  commit : Sheet → ℕ → Call
 
-abbrev pub answer : Sheet → Frontend → Call → Block
-answer s f c = blockOf s f (c .values) (c .out)
+-- ---- one call
+
+-- The state that it hands back.
+abbrev pub stateBy : Frontend → Call → Frontend
+stateBy f (block s values out) = blockOf s f values out .state
+stateBy f (commit s ticket) = commitOf s ticket f .state
+
+-- The samples that it takes: a block's first pairs, as many as it answers. A refused block answers 0.
+abbrev pub takenBy : Frontend → Call → List Pair
+takenBy f (block s values out) = take (blockOf s f values out .taken) (pairsOf values)
+takenBy f (commit s ticket) = []
+
+-- What it writes: 20 places for each symbol that a block counts. A refused block counts none.
+abbrev pub writtenBy : Frontend → Call → List ℤ
+writtenBy f (block s values out) = take (20 * blockOf s f values out .count) (blockOf s f values out .output)
+writtenBy f (commit s ticket) = []
+
+-- How many symbols it counts, and how many clips.
+abbrev pub countedBy : Frontend → Call → ℕ
+countedBy f (block s values out) = blockOf s f values out .count
+countedBy f (commit s ticket) = 0
+
+abbrev pub clippedBy : Frontend → Call → ℕ
+clippedBy f (block s values out) = blockOf s f values out .clips
+clippedBy f (commit s ticket) = 0
+
+-- ---- calls one after the other
 
 -- The state that the last of some calls hands back; the one before them where there is none.
-unfoldable pub stateAfter : Sheet → Frontend → List Call → Frontend
-stateAfter s f [] = f
-stateAfter s f (c ∷ cs) = stateAfter s (answer s f c .state) cs
+unfoldable pub stateAfter : Frontend → List Call → Frontend
+stateAfter f [] = f
+stateAfter f (c ∷ cs) = stateAfter (stateBy f c) cs
 
--- The samples that a call takes: its first pairs, as many as it answers. A refused call answers 0.
-abbrev pub takenBy : Sheet → Frontend → Call → List Pair
-takenBy s f c = take (answer s f c .taken) (pairsOf (c .values))
+-- The samples that they take, joined in order.
+unfoldable pub taken : Frontend → List Call → List Pair
+taken f [] = []
+taken f (c ∷ cs) = takenBy f c ++ taken (stateBy f c) cs
 
--- The same of some calls, joined in order.
-unfoldable pub taken : Sheet → Frontend → List Call → List Pair
-taken s f [] = []
-taken s f (c ∷ cs) = takenBy s f c ++ taken s (answer s f c .state) cs
+-- What they write, one call's behind the other's.
+unfoldable pub written : Frontend → List Call → List ℤ
+written f [] = []
+written f (c ∷ cs) = writtenBy f c ++ written (stateBy f c) cs
 
--- What the calls wrote, 20 places for each symbol that they counted, one call's behind the other's. A refused call counts none.
-unfoldable pub written : Sheet → Frontend → List Call → List ℤ
-written s f [] = []
-written s f (c ∷ cs) = take (20 * answer s f c .count) (answer s f c .output) ++ written s (answer s f c .state) cs
+-- How many symbols they count in all, and how many clips.
+unfoldable pub counted : Frontend → List Call → ℕ
+counted f [] = 0
+counted f (c ∷ cs) = countedBy f c + counted (stateBy f c) cs
 
--- How many symbols they counted in all.
-unfoldable pub counted : Sheet → Frontend → List Call → ℕ
-counted s f [] = 0
-counted s f (c ∷ cs) = answer s f c .count + counted s (answer s f c .state) cs
+unfoldable pub clipped : Frontend → List Call → ℕ
+clipped f [] = 0
+clipped f (c ∷ cs) = clippedBy f c + clipped (stateBy f c) cs
 
--- How many clips they counted in all.
-unfoldable pub clipped : Sheet → Frontend → List Call → ℕ
-clipped s f [] = 0
-clipped s f (c ∷ cs) = answer s f c .clips + clipped s (answer s f c .state) cs
+-- ---- commits
 
--- A caller that offers what is left: it makes a call with each of its outputs, on the values behind those that the calls before took.
-unfoldable pub offers : Sheet → Frontend → List ℤ → List (List ℤ) → List Call
-offers s f values [] = []
-offers s f values (out ∷ outs) =
-    let c : Call = record { values = values; out = out } in
-    c ∷ offers s (answer s f c .state) (drop (2 * answer s f c .taken) values) outs
+-- A commit that was accepted: how many samples had been taken before it, and its sheet with the banks.
+pub record CommitAt : Type 0 where
+  pub count : ℕ
+  pub sheet : Sheet
+
+-- Those of one call, with so many samples taken before it: one or none.
+abbrev pub committedBy : ℕ → Frontend → Call → List CommitAt
+committedBy n f (block s values out) = []
+committedBy n f (commit s ticket) = cond (eqb (commitOf s ticket f .refused .number) 0) (record { count = n; sheet = s } ∷ []) []
+
+-- Those of some calls, in order, with so many samples taken before the first.
+unfoldable pub commits : ℕ → Frontend → List Call → List CommitAt
+commits n f [] = []
+commits n f (c ∷ cs) = committedBy n f c ++ commits (n + length (takenBy f c)) (stateBy f c) cs
+
+-- ---- lists that keep to their sheets
+
+-- The sheet in force behind a call, of the one before it: a commit that is accepted puts its own there.
+abbrev pub sheetBy : Sheet → Frontend → Call → Sheet
+sheetBy s f (block t values out) = s
+sheetBy s f (commit t ticket) = cond (eqb (commitOf t ticket f .refused .number) 0) t s
+
+-- A block that is accepted was given the sheet in force, with its banks.
+abbrev pub Keeps : Sheet → Frontend → Call → Type 0
+Keeps s f (block t values out) = blockOf t f values out .refused .number ≡ 0 → t ≡ s
+Keeps s f (commit t ticket) = Unit {0}
+
+-- Every one of some calls was.
+unfoldable pub KeepTo : Sheet → Frontend → List Call → Type 0
+KeepTo s f [] = Unit {0}
+KeepTo s f (c ∷ cs) = Keeps s f c × KeepTo (sheetBy s f c) (stateBy f c) cs
 
 -- ---- of a list that begins with the state that starting gave
 
@@ -60,16 +111,30 @@ abbrev pub startState : Sheet → Frontend
 startState s = startOf s .state
 
 abbrev pub endState : Sheet → List Call → Frontend
-endState s cs = stateAfter s (startState s) cs
+endState s cs = stateAfter (startState s) cs
 
 abbrev pub samplesOf : Sheet → List Call → List Pair
-samplesOf s cs = taken s (startState s) cs
+samplesOf s cs = taken (startState s) cs
 
 abbrev pub placesWritten : Sheet → List Call → List ℤ
-placesWritten s cs = written s (startState s) cs
+placesWritten s cs = written (startState s) cs
 
 abbrev pub symbolCount : Sheet → List Call → ℕ
-symbolCount s cs = counted s (startState s) cs
+symbolCount s cs = counted (startState s) cs
 
 abbrev pub clipCount : Sheet → List Call → ℕ
-clipCount s cs = clipped s (startState s) cs
+clipCount s cs = clipped (startState s) cs
+
+abbrev pub commitsOf : Sheet → List Call → List CommitAt
+commitsOf s cs = commits 0 (startState s) cs
+
+abbrev pub KeepsToItsSheets : Sheet → List Call → Type 0
+KeepsToItsSheets s cs = KeepTo s (startState s) cs
+
+-- ---- a caller that offers what is left
+
+-- It makes a block under one sheet with each of its outputs, on the values behind those that the blocks before took.
+unfoldable pub offers : Sheet → Frontend → List ℤ → List (List ℤ) → List Call
+offers s f values [] = []
+offers s f values (out ∷ outs) =
+    block s values out ∷ offers s (blockOf s f values out .state) (drop (2 * blockOf s f values out .taken) values) outs

@@ -1,21 +1,26 @@
--- What holds of every list of block calls from a fresh start, refused calls among them, and of every two such lists under one sheet.
+-- What holds of every list of blocks and commits from a fresh start, refused ones among them, and of every two such lists from one start.
 -- The claims are about the places that the calls wrote and the states that they handed back, and nothing in them is left abstract.
 -- (RULES 5.2 to 5.4)
 use Prim.Native.Nat.{ℕ, _+_, _*_, _/_, _%_, _≤_, _<_}
 use mathlib.Core.Path.{_≡_}
 use mathlib.Core.Logic.{_⊎_}
-use mathlib.Core.List.{List, []}
+use mathlib.Core.Bool.{cond}
+use mathlib.Core.List.{List, [], _∷_}
+use lib.Dec.{leb}
 use lib.ListN.{length, getD}
 use lib.IntN.{ℤ, pos, _+ℤ_, _*ℤ_}
 use lib.Signed.{shrZ, _≤ℤ_}
 use Rattle.params.specs.Refusal.{nothing}
-use Rattle.params.specs.Judge.{Sheet}
+use Rattle.params.specs.Judge.{Sheet, judged}
 use Rattle.state.specs.declared.Pair.{Pair}
 use Rattle.state.specs.Start.{noPair, startOf}
 use Rattle.state.specs.declared.Frontend.{Frontend}
+use Rattle.state.specs.Read.{readOf}
+use Rattle.retune.specs.Retune.{askOf, commitOf}
 use Rattle.fixed.specs.Filter.{sumTo}
-use Rattle.fixed.specs.Block.{pairsOf}
-use Rattle.timing.specs.Lists.{Call, answer, taken, offers, endState, samplesOf, placesWritten, symbolCount, clipCount}
+use Rattle.fixed.specs.Block.{pairsOf, blockOf}
+use Rattle.timing.specs.Lists.{Call, block, commit, CommitAt, stateAfter, taken, counted, offers}
+use Rattle.timing.specs.Lists.{endState, samplesOf, placesWritten, symbolCount, clipCount, commitsOf, KeepsToItsSheets}
 
 -- ---- of the places that were written
 
@@ -70,6 +75,11 @@ pub record AgreeUpTo (n : ℕ) (xs ys : List Pair) : Type 0 where
   pub there : n < length ys
   pub same : (m : ℕ) → m ≤ n → getD xs m noPair ≡ getD ys m noPair
 
+-- The commits at counts of at most n: those that were made before sample n or an earlier one.
+unfoldable pub upTo : ℕ → List CommitAt → List CommitAt
+upTo n [] = []
+upTo n (m ∷ ms) = cond (leb (m .count) n) (m ∷ upTo n ms) (upTo n ms)
+
 -- Symbol k is the same in both, in the four places that the loop decides.
 pub record SameTiming (a b : List ℤ) (k : ℕ) : Type 0 where
   pub sample : sampleAt a k ≡ sampleAt b k
@@ -78,14 +88,15 @@ pub record SameTiming (a b : List ℤ) (k : ℕ) : Type 0 where
   pub gain : gainAt a k ≡ gainAt b k
 
 module _ (s : Sheet) (cs ds : List Call) where
-  -- 4. The second list has symbols 0 to i too, place for place, and what the loop decides is the same up to the sheet's delay further, in every symbol that
-  -- both have.
+  -- 4. The second list has symbols 0 to i too, place for place. What the loop decides is the same up to the start's delay further, in every symbol k that both
+  -- have and up to whose sample m in the first the commits are the same.
   pub record Delayed (i : ℕ) : Type 0 where
     pub has : i < symbolCount s ds
     pub same : (k : ℕ) → k ≤ i → (j : ℕ) → j < 20 → placeAt (placesWritten s cs) k j ≡ placeAt (placesWritten s ds) k j
-    pub ahead : (k : ℕ) → k ≤ i + s .params .delay → k < symbolCount s cs → k < symbolCount s ds → SameTiming (placesWritten s cs) (placesWritten s ds) k
+    pub ahead : (k m : ℕ) → k ≤ i + s .params .delay → k < symbolCount s cs → k < symbolCount s ds → sampleAt (placesWritten s cs) k ≡ pos m
+        → upTo m (commitsOf s cs) ≡ upTo m (commitsOf s ds) → SameTiming (placesWritten s cs) (placesWritten s ds) k
 
-  -- 5. The same symbols, place for place, as many clips in all, and the same end state, field for field.
+  -- 5. The same symbols, place for place, as many clips in all, and the same end state, field for field, the held sheet's among them.
   pub record SameRun : Type 0 where
     pub count : symbolCount s cs ≡ symbolCount s ds
     pub clips : clipCount s cs ≡ clipCount s ds
@@ -99,45 +110,70 @@ pub record Timing (s : Sheet) : Type 0 where
   pub place : (cs : List Call) (k : ℕ) → k < symbolCount s cs → Place s cs k
   pub apart : (cs : List Call) (k : ℕ) → k + 1 < symbolCount s cs → Apart s cs k
   pub rest : (cs : List Call) → Rest s cs
-  -- errors act as many symbols later as the sheet's delay says and never sooner: the two lists' samples agree up to symbol i's own in the first, whatever comes
-  -- later
-  pub delayed : (cs ds : List Call) (i n : ℕ) → i < symbolCount s cs → sampleAt (placesWritten s cs) i ≡ pos n
-      → AgreeUpTo n (samplesOf s cs) (samplesOf s ds) → Delayed s cs ds i
+  -- errors act as many symbols later as the delay says and never sooner: the two lists' samples and their commits agree up to symbol i's own sample in the
+  -- first, whatever comes later
+  pub delayed : (cs ds : List Call) (i n : ℕ) → KeepsToItsSheets s cs → KeepsToItsSheets s ds → i < symbolCount s cs → sampleAt (placesWritten s cs) i ≡ pos n
+      → AgreeUpTo n (samplesOf s cs) (samplesOf s ds) → upTo n (commitsOf s cs) ≡ upTo n (commitsOf s ds) → Delayed s cs ds i
   -- how the samples are cut into blocks, and what was refused between them, changes nothing
-  pub cuts : (cs ds : List Call) → samplesOf s cs ≡ samplesOf s ds → SameRun s cs ds
+  pub cuts : (cs ds : List Call) → KeepsToItsSheets s cs → KeepsToItsSheets s ds → samplesOf s cs ≡ samplesOf s ds → commitsOf s cs ≡ commitsOf s ds
+      → SameRun s cs ds
 
 -- All of it holds for every sheet and banks of which starting refuses nothing.
 abbrev pub TimingHolds : Type 0
 TimingHolds = (s : Sheet) → startOf s .refused ≡ nothing → Timing s
 
--- Beyond that: the state that a list hands back is always one that the next call goes on from, so only 10, 11 and 12 can refuse a call of a list.
+-- The case without commits: where all calls are blocks under the sheet and the banks of the start, a list keeps to its sheets, and what 4 and 5 ask of commits
+-- holds by itself, since there are none.
+abbrev pub Plain : Sheet → List Call → Type 0
+Plain s [] = Unit {0}
+Plain s (block t values out ∷ cs) = (t ≡ s) × Plain s cs
+Plain s (commit t ticket ∷ cs) = ⊥
+
+abbrev pub WithoutCommits : Type 0
+WithoutCommits = (s : Sheet) (cs : List Call) → Plain s cs → KeepsToItsSheets s cs × (commitsOf s cs ≡ [])
+
+-- ---- what can be refused in a list
+
+-- Behind a list, under a sheet and banks that judging accepts: where the state that the list hands back holds this sheet, only 10, 11 and 12 can refuse a block,
+-- and nothing a reading; where it holds another one, both are refused by 9.
+pub record GoesOn (f : Frontend) (t : Sheet) : Type 0 where
+  pub blocks : t .params ≡ f .params → (values out : List ℤ)
+      → let n : ℕ = blockOf t f values out .refused .number in (n ≡ 0) ⊎ ((10 ≤ n) × (n ≤ 12))
+  pub reads : t .params ≡ f .params → readOf t f .refused .number ≡ 0
+  pub other-blocks : (t .params ≡ f .params → ⊥) → (values out : List ℤ) → blockOf t f values out .refused .number ≡ 9
+  pub other-reads : (t .params ≡ f .params → ⊥) → readOf t f .refused .number ≡ 9
+
 abbrev pub StatesGoOn : Type 0
-StatesGoOn =
-    (s : Sheet) → startOf s .refused ≡ nothing → (cs : List Call) (c : Call)
-    → let n : ℕ = answer s (endState s cs) c .refused .number in (n ≡ 0) ⊎ ((10 ≤ n) × (n ≤ 12))
+StatesGoOn = (s : Sheet) → startOf s .refused ≡ nothing → (cs : List Call) (t : Sheet) → judged t ≡ nothing → GoesOn (endState s cs) t
+
+-- A ticket holds until the next symbol, on any state: behind an accepted ask and any calls that make no symbol, the commit of the same sheet and banks is accepted.
+abbrev pub TicketsHold : Type 0
+TicketsHold =
+    (f : Frontend) (t : Sheet) (cs : List Call) → askOf t f .refused .number ≡ 0 → counted f cs ≡ 0
+    → commitOf t (askOf t f .ticket) (stateAfter f cs) .refused .number ≡ 0
 
 -- ---- how many clips there can be
 
--- A call counts twelve at most for each symbol that it wrote, whatever the sheet and the state.
+-- A block counts twelve at most for each symbol that it wrote, whatever the sheet and the state.
 -- (RULES 4.2)
 abbrev pub ClipsFew : Type 0
-ClipsFew = (s : Sheet) (f : Frontend) (c : Call) → answer s f c .clips ≤ 12 * answer s f c .count
+ClipsFew = (s : Sheet) (f : Frontend) (values out : List ℤ) → blockOf s f values out .clips ≤ 12 * blockOf s f values out .count
 
 -- ---- what a caller can count on that is given a short output
 
--- A call takes no more pairs than it is given, and if it is given one and refuses nothing, it takes one at least, whatever the sheet and the state.
-pub record Advances (s : Sheet) (f : Frontend) (c : Call) : Type 0 where
-  pub given : answer s f c .taken ≤ length (pairsOf (c .values))
-  pub some : answer s f c .refused .number ≡ 0 → 0 < length (pairsOf (c .values)) → 0 < answer s f c .taken
+-- A block takes no more pairs than it is given, and if it is given one and refuses nothing, it takes one at least, whatever the sheet and the state.
+pub record Advances (s : Sheet) (f : Frontend) (values out : List ℤ) : Type 0 where
+  pub given : blockOf s f values out .taken ≤ length (pairsOf values)
+  pub some : blockOf s f values out .refused .number ≡ 0 → 0 < length (pairsOf values) → 0 < blockOf s f values out .taken
 
 abbrev pub CallsAdvance : Type 0
-CallsAdvance = (s : Sheet) (f : Frontend) (c : Call) → Advances s f c
+CallsAdvance = (s : Sheet) (f : Frontend) (values out : List ℤ) → Advances s f values out
 
--- So a caller that offers what is left, behind any list, comes to an end: with whole pairs that can be counted, 20 places or more each time and as many calls
--- as pairs, all of them are taken, each once and in their order.
+-- So a caller that offers what is left, behind any list and under a sheet that its end state holds, comes to an end: with whole pairs that can be counted, 20
+-- places or more each time and as many blocks as pairs, all of them are taken, each once and in their order.
 abbrev pub OffersEnd : Type 0
 OffersEnd =
-    (s : Sheet) → startOf s .refused ≡ nothing → (cs : List Call) (values : List ℤ) (outs : List (List ℤ))
-    → length values % 2 ≡ 0 → endState s cs .samples + length values / 2 ≤ 9223372036854775807
+    (s : Sheet) → startOf s .refused ≡ nothing → (cs : List Call) (t : Sheet) → judged t ≡ nothing → t .params ≡ endState s cs .params
+    → (values : List ℤ) (outs : List (List ℤ)) → length values % 2 ≡ 0 → endState s cs .samples + length values / 2 ≤ 9223372036854775807
     → ((n : ℕ) → n < length outs → 20 ≤ length (getD outs n [])) → length values / 2 ≤ length outs
-    → taken s (endState s cs) (offers s (endState s cs) values outs) ≡ pairsOf values
+    → taken (endState s cs) (offers t (endState s cs) values outs) ≡ pairsOf values

@@ -151,8 +151,8 @@ impl<W: Write> Retunes<'_, '_, '_, W> {
             }
             self.retunes()?;
         }
-        // behind the last sample, until there was a sheet of every change
-        while self.drawn < Change::ALL.len() {
+        // behind the last sample, until there was a sheet of every change; behind a start that is refused, all of that is refused
+        while self.drawn < Change::ALL.len() && self.force.refusal().is_empty() {
             self.retune()?;
         }
         // one that is accepted, if the start was
@@ -330,9 +330,11 @@ impl<W: Write> Retunes<'_, '_, '_, W> {
     fn block_under(&mut self, new: &Reading) -> io::Result<()> {
         let size = self.r.below(4);
         let values = self.next_values(size);
-        let change = self
-            .r
-            .pick(&[Change::OneField, Change::Delay, Change::Many]);
+        let fields = [Change::OneField, Change::Delay, Change::Many];
+        let change = match self.r.one_in(12) {
+            true => Change::Banks,
+            false => self.r.pick(&fields),
+        };
         let other = at(&self.force, &self.run).changed(change, self.r);
         let mut rest = &values[..];
         for reading in [new, &Reading::owning(other)] {

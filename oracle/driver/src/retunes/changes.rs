@@ -163,8 +163,8 @@ impl At<'_> {
         let taps = i128::from(self.sheet.taps);
         // the first that has the head within, and the one before it
         let near = (self.state.head / 2 + 1) * 2;
-        let any = r.between(2, 32) * 2;
-        let mut wanted = vec![taps + 2, taps - 2, near, near - 2, any.into()];
+        let any = taps + 2 * i128::from(r.between(-6, 6));
+        let mut wanted = vec![taps + 2, taps - 2, near, near - 2, any];
         wanted.retain(|other| *other != taps && (4..=64).contains(other));
         wanted.push(if taps == 4 { 6 } else { 4 });
         let taps = r.pick(&wanted) as u32;
@@ -189,7 +189,7 @@ impl At<'_> {
         }
         match r.below(8) {
             0 => generate::spoiled(r, sheet),
-            1 | 2 => judged_field(sheet, r),
+            1 | 2 => judged(sheet, r),
             _ => sheet,
         }
     }
@@ -313,9 +313,9 @@ fn other_delay(sheet: &Sheet, r: &mut Random) -> u8 {
     }
 }
 
-/// A field that judging refuses, and banks as they are.
-fn judged_field(mut sheet: Sheet, r: &mut Random) -> Sheet {
-    match r.below(10) {
+/// One thing that judging refuses; under few taps, where the detector has all places, now and then nothing.
+fn judged(mut sheet: Sheet, r: &mut Random) -> Sheet {
+    match r.below(13) {
         0 => sheet.period_min = 1 << 24,
         1 => sheet.period_max = 1 << 26,
         2 => sheet.bits = r.pick(&[1, 9]),
@@ -325,9 +325,19 @@ fn judged_field(mut sheet: Sheet, r: &mut Random) -> Sheet {
         6 => sheet.ted_shift = 31,
         7 => sheet.kp_shift = 41,
         8 => sheet.ki_shift = 41,
-        _ => sheet.agc_shift = 64,
+        9 => sheet.agc_shift = 64,
+        10 => set_first(&mut sheet.banks[2], 131072),
+        11 => set_first(&mut sheet.banks[2], -131072),
+        _ if sheet.taps > 8 => set_first(&mut sheet.banks[r.below(2) as usize], 1),
+        _ => (),
     }
     sheet
+}
+
+fn set_first(bank: &mut [i32], coefficient: i32) {
+    if let Some(first) = bank.first_mut() {
+        *first = coefficient;
+    }
 }
 
 /// A sheet whose loops move, so that what a commit may not touch shows in the symbols behind it: one to two samples a symbol,
@@ -348,7 +358,7 @@ pub fn liven(sheet: &mut Sheet, keeps_gain: bool, r: &mut Random) {
     sheet.agc_init = r.between(1 << 14, 1 << 20) as u32;
     sheet.agc_target = 1 << r.between(10, 18);
     sheet.agc_shift = r.between(0, 4) as u8;
-    if !r.one_in(3) {
+    if !r.one_in(4) {
         thin_out(sheet);
     }
 }
