@@ -5,7 +5,7 @@
 # make oracle    compares this code with the Rust front end of isdb-rs
 # make bench     measures both in one run and prints how many times as fast this one is; with WRITE=1 it also writes docs/BENCH.md
 # make archive   writes target/staticlib/libarchive.a, for C and Rust to link, and proves nothing where nothing has changed
-# make examples  runs two examples in C, one in Rust and the symbol program on a recording, and compares what they print with what is stored
+# make examples  runs three examples in C, one in Rust and the symbol program on a recording, and compares what they print with what is stored
 # make bindings  tests the C header and the Rust bindings
 # make clean     removes all that was made
 #

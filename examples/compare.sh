@@ -1,6 +1,6 @@
 #!/bin/sh
-# Builds the examples over the archive, runs them and the symbol program on recording.csv, and compares what each prints with what is stored: symbols.txt, or
-# dish_gain.txt. Run it as `make examples`, which proves and links the archive and the program.
+# Builds the examples over the archive, runs them and the symbol program on recording.csv, and compares what each prints with what is stored: symbols.txt,
+# dish_gain.txt or retune.txt. Run it as `make examples`, which proves and links the archive and the program.
 set -eu
 cd "$(dirname "$0")/.."
 : "${CC:=cc}"
@@ -28,15 +28,17 @@ absent() {
 }
 
 if command -v "${CC%% *}" >/dev/null; then
-    for name in one_by_one dish_gain; do
-        $CC -std=c99 -O2 -Wall -Wextra -Wpedantic -Iinclude -o $work/$name examples/$name.c target/staticlib/libarchive.a
+    for name in one_by_one dish_gain retune; do
+        $CC -std=c99 -O2 -Wall -Wextra -Wpedantic -Iinclude -o $work/$name examples/$name.c target/staticlib/libarchive.a -lm
     done
     $work/one_by_one $recording >$work/printed || failed=1
     agrees "one_by_one.c, one sample after another" $list "$whole"
     $work/dish_gain $recording >$work/printed || failed=1
     agrees "dish_gain.c, down to the gain that clips nothing" examples/dish_gain.txt "the clips at each gain"
+    $work/retune $recording >$work/printed || failed=1
+    agrees "retune.c, other loop gains on the way" examples/retune.txt "refusal, periods and spreads"
 else
-    absent "$CC, a C compiler, is not here: one_by_one.c and dish_gain.c were not run"
+    absent "$CC, a C compiler, is not here: one_by_one.c, dish_gain.c and retune.c were not run"
 fi
 
 if command -v cargo >/dev/null; then

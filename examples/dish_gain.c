@@ -47,8 +47,7 @@ static uint32_t take(struct receiver *rx, const int16_t *values, size_t left, st
     int64_t answer[HUNTELM_BLOCK_PLACES];
     block->symbols = block->clips = 0;
     while (left > 0) {
-        uint32_t refused = huntelm_block(rx->sheet, HUNTELM_SHEET_PLACES, rx->h, rx->bank, rx->g, rx->bank, rx->k, rx->bank, rx->state, HUNTELM_STATE_PLACES,
-                                         values, left, symbols, ROOM * HUNTELM_SYMBOL_PLACES, answer, HUNTELM_BLOCK_PLACES);
+        uint32_t refused = huntelm_state_block(&rx->state, &rx->sheet, values, left, symbols, ROOM * HUNTELM_SYMBOL_PLACES, answer);
         if (refused) return refused;
         block->symbols += answer[HUNTELM_BLOCK_COUNT];
         block->clips += answer[HUNTELM_BLOCK_CLIPS];

@@ -21,8 +21,7 @@ static void print_symbol(const int64_t *symbol) {
 static uint32_t take(struct receiver *rx, const int16_t *values, size_t left) {
     int64_t symbol[HUNTELM_SYMBOL_PLACES], answer[HUNTELM_BLOCK_PLACES];
     while (left > 0) {
-        uint32_t refused = huntelm_block(rx->sheet, HUNTELM_SHEET_PLACES, rx->h, rx->bank, rx->g, rx->bank, rx->k, rx->bank, rx->state, HUNTELM_STATE_PLACES,
-                                         values, left, symbol, HUNTELM_SYMBOL_PLACES, answer, HUNTELM_BLOCK_PLACES);
+        uint32_t refused = huntelm_state_block(&rx->state, &rx->sheet, values, left, symbol, HUNTELM_SYMBOL_PLACES, answer);
         if (refused) return refused;
         if (answer[HUNTELM_BLOCK_COUNT] == 1) print_symbol(symbol);
         values += 2 * answer[HUNTELM_BLOCK_TAKEN];
@@ -33,6 +32,7 @@ static uint32_t take(struct receiver *rx, const int16_t *values, size_t left) {
 
 static int run(struct recording *r) {
     static struct receiver rx;
+    const int64_t *end = rx.state.places;
     int16_t values[2];
     int found;
     if (!start(&rx, r)) return 1;
@@ -41,7 +41,7 @@ static int run(struct recording *r) {
         if (refused) return refuse(r, "the pair", refused);
     }
     if (found < 0) return 1;
-    printf("end,%" PRId64 ",%" PRId64 ",%" PRId64 "\n", rx.state[HUNTELM_STATE_SAMPLES], rx.state[HUNTELM_STATE_SYMBOLS], rx.state[HUNTELM_STATE_T]);
+    printf("end,%" PRId64 ",%" PRId64 ",%" PRId64 "\n", end[HUNTELM_STATE_SAMPLES], end[HUNTELM_STATE_SYMBOLS], end[HUNTELM_STATE_T]);
     return 0;
 }
 

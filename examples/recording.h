@@ -15,7 +15,7 @@
 #define LONGEST 1024
 #define BANK (HUNTELM_ROWS * HUNTELM_MAX_TAPS)
 
-/* What a refusal's number says. No call answers 20 to 28. */
+/* What a refusal's number says. No call answers 20 to 26. */
 static const char *const refusals[] = {
     "nothing",
     "taps are odd, below 4 or above 64",
@@ -26,7 +26,7 @@ static const char *const refusals[] = {
     "the periods are not 2^24 < min <= nominal <= max < 2^26",
     "a field is outside its range",
     "agc_shift is above 63",
-    "the state is none of this sheet",
+    "the state cannot go on under this sheet: it holds another one, or is outside its bounds",
     "an odd number of sample values",
     "no room for one symbol, or too few places for the answer",
     "more than 2^63 - 1 samples in all",
@@ -37,7 +37,9 @@ static const char *const refusals[] = {
     "the trim is outside -0.5 .. 0.5",
     "not the number of places that a sheet has",
     "a number is outside the type of its place",
-    [HUNTELM_REFUSED_DELAY] = "the delay is outside 1 .. 24",
+    [HUNTELM_REFUSED_HELD_TAPS] = "the taps are not those of the state",
+    [HUNTELM_REFUSED_TICKET] = "the ticket is not the number of symbols so far",
+    [HUNTELM_REFUSED_DELAY] = "the delay is outside 1 .. 24, or not that of the state",
 };
 
 struct recording {
@@ -112,27 +114,32 @@ static int read_bank(struct recording *r, int32_t *bank, size_t taps) {
     return 1;
 }
 
-/* What every call is lent: a sheet, its banks, so many coefficients each, and the state. */
+/* A sheet, the banks that it points to, and the state. */
 struct receiver {
-    int64_t sheet[HUNTELM_SHEET_PLACES], state[HUNTELM_STATE_PLACES];
+    struct huntelm_sheet sheet;
+    struct huntelm_state state;
     int32_t h[BANK], g[BANK], k[BANK];
-    size_t bank;
 };
 
 /* Reads the sheet with its banks and starts. Answers 1, or 0 where something is wrong, which it reports. */
 static int start(struct receiver *rx, struct recording *r) {
+    struct huntelm_sheet *sheet = &rx->sheet;
     size_t taps;
     uint32_t refused;
-    int found = read_line(r, rx->sheet, HUNTELM_SHEET_PLACES);
+    int found = read_line(r, sheet->places, HUNTELM_SHEET_PLACES);
     if (found == 0) fail(r, "the file is empty");
     if (found != 1) return 0;
+    sheet->h = rx->h;
+    sheet->g = rx->g;
+    sheet->k = rx->k;
     /* With no banks yet their length is what is refused, unless the line itself is. From here on taps are 4 to 64. */
-    refused = huntelm_judge(rx->sheet, HUNTELM_SHEET_PLACES, NULL, 0, NULL, 0, NULL, 0);
+    sheet->h_len = sheet->g_len = sheet->k_len = 0;
+    refused = huntelm_sheet_judge(sheet);
     if (refused != HUNTELM_REFUSED_BANK_LENGTH) return !refuse(r, "the sheet", refused);
-    taps = (size_t)rx->sheet[HUNTELM_SHEET_TAPS];
-    rx->bank = HUNTELM_ROWS * taps;
+    taps = (size_t)sheet->places[HUNTELM_SHEET_TAPS];
     if (!read_bank(r, rx->h, taps) || !read_bank(r, rx->g, taps) || !read_bank(r, rx->k, taps)) return 0;
-    refused = huntelm_start(rx->sheet, HUNTELM_SHEET_PLACES, rx->h, rx->bank, rx->g, rx->bank, rx->k, rx->bank, rx->state, HUNTELM_STATE_PLACES);
+    sheet->h_len = sheet->g_len = sheet->k_len = HUNTELM_ROWS * taps;
+    refused = huntelm_state_start(&rx->state, sheet);
     if (refused) return !refuse(r, "the sheet that ends here", refused);
     return 1;
 }

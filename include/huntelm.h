@@ -1,8 +1,8 @@
 /*
  * Huntelm: a receiver front end for satellite carriers. Samples go in, symbols come out.
  *
- * For C99 and C++11 on x86-64 Linux. `make archive` writes target/staticlib/libarchive.a, which holds all functions below and needs nothing but memcpy and
- * memset. It keeps nothing between calls and allocates nothing, so calls on different objects may run at the same time.
+ * For C99 and C++11 on x86-64 Linux. Link target/staticlib/libarchive.a, which `make archive` writes and which needs nothing but memcpy and memset. It keeps
+ * nothing between calls and allocates nothing, so calls on different objects may run at the same time.
  *
  * A sheet is what a run is set to: 18 fields, and three banks of coefficients. A state is where a run stands. Both are the caller's. This is a whole program:
  *
@@ -65,7 +65,8 @@
  *
  * What you owe the calls
  *   A pointer is good for its length: so many elements of its type stand there, aligned, with values in them, and can be written where it is not const. A
- *   length counts elements, not bytes. With length 0 a pointer may be anything, NULL too: nothing is read or written through it.
+ *   length counts elements, not bytes. With length 0 a pointer may be anything, NULL too: nothing is read or written through it. An array that a call names
+ *   with its size, as answer[HUNTELM_BLOCK_PLACES], has that many elements at least.
  *   An object or buffer that is lent for writing overlaps no other one of the call. Those that are only read may overlap: h and k may be one bank.
  *   Nobody else writes what is lent while the call runs.
  */

@@ -64,11 +64,11 @@ replayed() { # NAME PROGRAM COMMAND-AND-WORDS
 }
 
 # Runs by isdb-rs at every delay, each with its own seed. A driver fails where its isdb-rs and its reading of docs/RULES.md differ.
-runs_at_each_delay() { # KIND COUNT
+at_each_delay() { # COMMAND KIND COUNT
     for delay in $shorter; do
-        "oracle/target/delay-$delay/delay/oracle" path "$1" "$delay" "$2" || return 1
+        "oracle/target/delay-$delay/delay/oracle" "$1" "$2" "$delay" "$3" || return 1
     done
-    $checked path "$1" 24 "$2"
+    $checked "$1" "$2" 24 "$3"
 }
 
 # A program that compares by itself says so in one line: how many were compared, how many differed, and behind a semicolon of what kinds they were.
@@ -103,16 +103,32 @@ done
 # The same at every delay from 1 to 24, by isdb-rs with that number for its constant, and each time held against the reading too. Of 1,920 sheets 1,779 are
 # accepted and run, at least 70 at each delay; the others are refused.
 for kind in designed extreme mixed clipping; do
-    replayed "starting, blocks and readings at each delay, $kind sheets" replay_calls runs_at_each_delay $kind $((20 * SCALE))
+    replayed "starting, blocks and readings at each delay, $kind sheets" replay_calls at_each_delay path $kind $((20 * SCALE))
+done
+
+# Retunes: lists of blocks, asks and commits, 20,060 in all with those of the next part, accepted ones and refused ones before, between and behind all samples.
+# The driver also holds each list against isdb-rs, as far as that has a counterpart, and against what docs/RULES.md says of lists in 5.2 and 5.3.
+retunes() { # KIND COUNT
+    replayed "blocks, readings and retunes, $1 sheets" replay_calls $checked retunes "$1" 1 $(($2 * SCALE))
+}
+retunes small 9000
+retunes clipping 7500
+retunes extreme 1000
+retunes designed 800
+retunes mixed 800
+
+# The same at every delay from 1 to 24.
+for kind in small clipping extreme designed; do
+    replayed "blocks, readings and retunes at each delay, $kind sheets" replay_calls at_each_delay retunes $kind $((10 * SCALE))
 done
 
 # Every number that the delay's field can hold, accepted or refused, by itself and behind a refusal that comes before it.
 replayed "calls under every number for a delay" replay_calls $checked delays 1
 
 # States that no run reaches, of any delay, good ones and broken ones, many next to the last sample that can be counted, 100,000 in all, with a short block or
-# two and a reading for each.
+# two and a reading for each; and 33,000 more that hold any sheet, each with an ask, a commit or two, two readings and a block.
 for kind in extreme mixed; do
-    replayed "blocks and readings of any state, $kind sheets" replay_calls $checked states $kind 1 $((50000 * SCALE))
+    replayed "calls on any state, $kind sheets" replay_calls $checked states $kind 1 $((50000 * SCALE))
 done
 
 # Floats: the samples of one in 16 of all 2^32 f32, and of all near a tie, a whole number or an end of what an f32 can be; STEP=1 takes every f32.
@@ -129,8 +145,8 @@ replayed "sheets of designs, judged, few taps" replay_floats $checked floats sma
 rm -f "$work/differs"
 told "the symbol program" $checked against target/bin/symbols 1 $((5000 * SCALE)) "$work/differs"
 
-# The archive, linked beside isdb-rs: runs in blocks of all sizes and with outputs that are too short for them, states that are changed after them, and calls
-# between them in which something is wrong.
+# The archive, linked beside isdb-rs: runs in blocks of all sizes and with outputs that are too short for them, half of them with retunes between the blocks,
+# states that are changed after them, and calls between them in which something is wrong.
 told "calls through the archive" oracle/archive/target/release/compare 1 $((20000000 * SCALE))
 
 # The Rust's two builds against each other: where they differ an overflow wrapped, and its answers are no measure.

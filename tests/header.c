@@ -149,16 +149,56 @@ static void judging(void) {
 
 /* Of ten taps the first and the last are not the detector's. */
 static void detector(void) {
-    static int32_t wide[HUNTELM_ROWS * 10];
+    static int32_t ten[HUNTELM_ROWS * 10];
     fill();
     sheet.places[HUNTELM_SHEET_TAPS] = 10;
-    sheet.h = sheet.g = sheet.k = wide;
-    sheet.h_len = sheet.g_len = sheet.k_len = 640;
-    wide[0] = 1;
+    sheet.h = sheet.g = sheet.k = ten;
+    sheet.h_len = sheet.g_len = sheet.k_len = HUNTELM_ROWS * 10;
+    ten[0] = 1;
     expect("a coefficient outside the detector", huntelm_sheet_judge(&sheet), HUNTELM_REFUSED_DETECTOR_TAPS);
-    wide[0] = 0;
-    wide[1] = 1;
+    ten[0] = 0;
+    ten[1] = 1;
     expect("a coefficient of the detector", huntelm_sheet_judge(&sheet), HUNTELM_ACCEPTED);
+}
+
+/* Every inline call with the sheet, of ten taps, which its design would make too. */
+static void expect_calls(const char *what, int64_t want) {
+    static const double rates[HUNTELM_RATE_PLACES] = {2, 1, 0, 0, 0.25};
+    static const int64_t fields[HUNTELM_FIELD_PLACES] = {10, 8, 12, 0, 0, 0, 0, 6};
+    static const int16_t values[2] = {1000, -1000};
+    struct huntelm_sheet made = sheet;
+    uint64_t ticket;
+    expect(what, huntelm_sheet_judge(&sheet), want);
+    expect(what, huntelm_sheet_design(&made, rates, fields), want);
+    expect(what, huntelm_sheet_offset(&sheet, 33554432, out), want);
+    expect(what, huntelm_state_start(&state, &sheet), want);
+    expect(what, huntelm_state_block(&state, &sheet, values, 2, out, OUT, answer), want);
+    expect(what, huntelm_state_read(&state, &sheet, out), want);
+    expect(what, huntelm_state_ask(&state, &sheet, &ticket), want);
+    expect(what, huntelm_state_commit(&state, &sheet, 1), want);
+    expect("the sheet that was made", memcmp(made.places, sheet.places, sizeof sheet.places), 0);
+}
+
+/* Every call passes on each bank with its length, and none for another: k alone may have a coefficient outside the detector's places. */
+static void banks_in_their_order(void) {
+    static int32_t banks[3][HUNTELM_ROWS * 10];
+    size_t *lengths[3] = {&sheet.h_len, &sheet.g_len, &sheet.k_len}, n;
+    fill();
+    sheet.places[HUNTELM_SHEET_TAPS] = 10;
+    sheet.h = banks[0];
+    sheet.g = banks[1];
+    sheet.k = banks[2];
+    sheet.h_len = sheet.g_len = sheet.k_len = HUNTELM_ROWS * 10;
+    banks[2][0] = 1;
+    expect_calls("accepted", HUNTELM_ACCEPTED);
+    for (n = 0; n < 3; n++) {
+        *lengths[n] -= 1;
+        expect_calls("a short bank", HUNTELM_REFUSED_BANK_LENGTH);
+        *lengths[n] += 1;
+        banks[n][5] = 131072;
+        expect_calls("a coefficient", HUNTELM_REFUSED_COEFFICIENT);
+        banks[n][5] = 0;
+    }
 }
 
 static void path(void) {
@@ -537,12 +577,11 @@ static void another_delay(void) {
     }
 }
 
-/* Banks of six taps, for those of four. */
-static int32_t wide[HUNTELM_ROWS * 6];
-
-static void use_wide(void) {
+/* Gives the sheet six taps in place of four, with banks for them. */
+static void use_six_taps(void) {
+    static const int32_t six[HUNTELM_ROWS * 6] = {0};
     sheet.places[HUNTELM_SHEET_TAPS] = 6;
-    sheet.h = sheet.g = sheet.k = wide;
+    sheet.h = sheet.g = sheet.k = six;
     sheet.h_len = sheet.g_len = sheet.k_len = HUNTELM_ROWS * 6;
 }
 
@@ -571,7 +610,7 @@ static void held_sheet(void) {
         expect_other_sheet("another field");
         fill();
     }
-    use_wide();
+    use_six_taps();
     expect_other_sheet("other taps");
     fill();
     sheet.k = k;
@@ -655,7 +694,7 @@ static void retunes(void) {
     h[9] = 131071;
     expect_no_retune("a row's sum", HUNTELM_REFUSED_COEFFICIENT_SUM);
     under_way();
-    use_wide();
+    use_six_taps();
     expect_no_retune("other taps", HUNTELM_REFUSED_HELD_TAPS);
 }
 
@@ -677,36 +716,38 @@ static void tickets(void) {
     expect("and no longer", huntelm_state_commit(&state, &sheet, 5), HUNTELM_REFUSED_TICKET);
 }
 
-/* Of several faults the first in order is the answer. Each line adds one that comes before the others. */
+/* With no place for the ticket, and with another ticket than the state's, which are the last faults of asking and committing. */
+static void expect_fault(const char *what, int64_t want) {
+    expect(what, huntelm_ask(SHEET, STATE, out, 0), want);
+    expect(what, huntelm_commit(4, SHEET, STATE), want);
+}
+
+/* Of several faults the first in order is the answer. Each step adds one that comes before the others. */
 static void order_of_a_retune(void) {
     under_way();
     expect("a place for the ticket", huntelm_ask(SHEET, STATE, out, 1), HUNTELM_ACCEPTED);
     expect("one place is written", written(), 1);
     expect("it is the ticket", out[0], 5);
     mark();
+    kept = state;
     expect("no place for it", huntelm_ask(SHEET, STATE, out, 0), HUNTELM_REFUSED_SHORT_OUTPUT);
     expect("another ticket", huntelm_commit(4, SHEET, STATE), HUNTELM_REFUSED_TICKET);
-#define RETUNE(what, want) \
-    expect(what, huntelm_ask(SHEET, STATE, out, 0), want); \
-    expect(what, huntelm_commit(4, SHEET, STATE), want)
-    kept = state;
-    use_wide();
-    RETUNE("27 before 11 and 28", HUNTELM_REFUSED_HELD_TAPS);
+    use_six_taps();
+    expect_fault("27 before 11 and 28", HUNTELM_REFUSED_HELD_TAPS);
     sheet.places[HUNTELM_SHEET_INTEGRATOR_MAX] = 2;
-    RETUNE("9 before 27", HUNTELM_REFUSED_STATE);
+    expect_fault("9 before 27", HUNTELM_REFUSED_STATE);
     sheet.places[HUNTELM_SHEET_DELAY] = 4;
-    RETUNE("29 of the held delay before 9", HUNTELM_REFUSED_DELAY);
+    expect_fault("29 of the held delay before 9", HUNTELM_REFUSED_DELAY);
     state.places[HUNTELM_STATE_SHEET] = kept.places[HUNTELM_STATE_SHEET] = -1;
-    RETUNE("9 of no state before 29 of the held delay", HUNTELM_REFUSED_STATE);
+    expect_fault("9 of no state before 29 of the held delay", HUNTELM_REFUSED_STATE);
     sheet.places[HUNTELM_SHEET_DELAY] = 25;
-    RETUNE("29 of the sheet before 9 of no state", HUNTELM_REFUSED_DELAY);
+    expect_fault("29 of the sheet before 9 of no state", HUNTELM_REFUSED_DELAY);
     sheet.places[HUNTELM_SHEET_AGC_SHIFT] = 64;
-    RETUNE("8 before 29", HUNTELM_REFUSED_AGC_SHIFT);
+    expect_fault("8 before 29", HUNTELM_REFUSED_AGC_SHIFT);
     sheet.places[HUNTELM_SHEET_KI] = 32768;
-    RETUNE("19 before 8", HUNTELM_REFUSED_PLACE_TYPE);
-#undef RETUNE
-    expect("18 before 19", huntelm_ask(sheet.places, 17, wide, 384, wide, 384, wide, 384, STATE, out, 0), HUNTELM_REFUSED_PLACE_COUNT);
-    expect("18 before 19", huntelm_commit(4, sheet.places, 17, wide, 384, wide, 384, wide, 384, STATE), HUNTELM_REFUSED_PLACE_COUNT);
+    expect_fault("19 before 8", HUNTELM_REFUSED_PLACE_TYPE);
+    expect("18 before 19", huntelm_ask(sheet.places, 17, h, BANK, g, BANK, h, BANK, STATE, out, 0), HUNTELM_REFUSED_PLACE_COUNT);
+    expect("18 before 19", huntelm_commit(4, sheet.places, 17, h, BANK, g, BANK, h, BANK, STATE), HUNTELM_REFUSED_PLACE_COUNT);
     expect("the state stays as it was", memcmp(&state, &kept, sizeof kept), 0);
     expect("nothing is written", written(), 0);
 }
@@ -887,6 +928,7 @@ static void designs(void) {
 int main(void) {
     judging();
     detector();
+    banks_in_their_order();
     path();
     short_buffers();
     first_pairs();

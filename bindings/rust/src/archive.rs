@@ -1,4 +1,4 @@
-//! The archive's calls as they are, over slices of any length: what include/huntelm.h has for C. [`Params`](crate::Params) and
+//! The archive's calls as they are, over slices of any length: what include/huntelm.h has for C underneath its structs. [`Params`](crate::Params) and
 //! [`Frontend`](crate::Frontend) stand above them and are what a program needs; the calls are for those who keep sheets and states as places, or who test
 //! the archive. A call answers 0 or the number of a refusal; where it refuses, no place that it was lent is changed.
 //!

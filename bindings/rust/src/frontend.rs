@@ -474,19 +474,14 @@ mod tests {
     fn a_refused_call_touches_nothing() {
         let front = Frontend::new(params()).unwrap();
         let sheet = front.params.sheet(&front.sheet);
+        let whole = [STATE, LINE, ERRORS];
         for (lengths, values, places, room, refusal) in [
             ([STATE - 1, LINE, ERRORS], 2, 20, BLOCK, Refusal::State),
             ([STATE, LINE - 1, ERRORS], 2, 20, BLOCK, Refusal::State),
             ([STATE, LINE, ERRORS - 1], 2, 20, BLOCK, Refusal::State),
-            ([STATE, LINE, ERRORS], 3, 60, BLOCK, Refusal::OddInput),
-            ([STATE, LINE, ERRORS], 4, 19, BLOCK, Refusal::ShortOutput),
-            (
-                [STATE, LINE, ERRORS],
-                4,
-                40,
-                BLOCK - 1,
-                Refusal::ShortOutput,
-            ),
+            (whole, 3, 60, BLOCK, Refusal::OddInput),
+            (whole, 4, 19, BLOCK, Refusal::ShortOutput),
+            (whole, 4, 40, BLOCK - 1, Refusal::ShortOutput),
         ] {
             let mut state = front.state;
             let mut out = vec![-3; places];
@@ -503,6 +498,9 @@ mod tests {
         }
     }
 
+    /// By what a retune with this ticket and this change is refused.
+    type Refused = (Refusal, u64, fn(&mut Params));
+
     /// A refused retune leaves the front end as it was, the state whole, and an accepted one puts in the new sheet and nothing else.
     #[test]
     fn a_retune_changes_the_held_sheet_alone() {
@@ -515,33 +513,15 @@ mod tests {
             k: vec![3; 256],
             ..params()
         };
-        for (ticket, wanted, refusal) in [
-            (
-                ticket,
-                Params {
-                    bits: 9,
-                    ..wanted.clone()
-                },
-                Refusal::Range,
-            ),
-            (
-                ticket,
-                Params {
-                    delay: 23,
-                    ..wanted.clone()
-                },
-                Refusal::Delay,
-            ),
-            (
-                ticket,
-                Params {
-                    period_max: 33_000_000,
-                    ..wanted.clone()
-                },
-                Refusal::State,
-            ),
-            (ticket - 1, wanted.clone(), Refusal::Ticket),
-        ] {
+        let refused: [Refused; 4] = [
+            (Refusal::Range, ticket, |p| p.bits = 9),
+            (Refusal::Delay, ticket, |p| p.delay = 23),
+            (Refusal::State, ticket, |p| p.period_max = 33_000_000),
+            (Refusal::Ticket, ticket - 1, |_| ()),
+        ];
+        for (refusal, ticket, change) in refused {
+            let mut wanted = wanted.clone();
+            change(&mut wanted);
             assert_eq!(front.retune(ticket, wanted), Err(refusal));
             assert_eq!((front.state, front.sheet), (before.state, before.sheet));
             assert_eq!(front.params, before.params);

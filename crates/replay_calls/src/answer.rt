@@ -1,7 +1,8 @@
-// The answers of calls in the numbers that a row has for them: a refusal's number (RULES 1.4, 4.1) and what it carries, or 0.
+// The answers of calls in the numbers that a row has for them: a refusal's number (RULES 1.4, 4.1, 4.4) and what it carries, or 0.
 use params::Verdict;
 use replay::answer;
 use replay::answer::Answer;
+use retune::RetuneVerdict;
 use state::FrontendVerdict;
 
 // Whether these are the first numbers of a row, or of a part of one.
@@ -29,6 +30,13 @@ pub(crate) fn of_verdict(v: Verdict) -> Answer {
 pub(crate) fn of_frontend(v: FrontendVerdict) -> Answer {
     match v {
         FrontendVerdict::Params(e) => answer::of_error(e),
+        _ => answer::alone(v.number()),
+    }
+}
+
+pub(crate) fn of_retune(v: RetuneVerdict) -> Answer {
+    match v {
+        RetuneVerdict::Params(e) => answer::of_error(e),
         _ => answer::alone(v.number()),
     }
 }

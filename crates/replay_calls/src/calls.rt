@@ -183,6 +183,40 @@ impl Replay {
             && answer::of_frontend(verdict).is(rows::rest(row, 4))
     }
 
+    // Row 13: asking.
+    fn is_asked(self, row: &[i64], room: &[i32]) -> bool {
+        let sheet = self.sheet;
+        let params = sheet.params;
+        let banks = sheet.banks;
+        let state = self.state;
+        let asked = retune::ask(state, params, banks.h(room), banks.g(room), banks.k(room));
+        let verdict = asked.verdict;
+        rows::at(row, 1) == rows::i64_of(asked.ticket)
+            && answer::of_retune(verdict).is(rows::rest(row, 2))
+    }
+
+    // Row 14: a commit, with this ticket.
+    fn committed(self, row: &[i64], room: &[i32]) -> Replay {
+        let sheet = self.sheet;
+        let params = sheet.params;
+        let banks = sheet.banks;
+        let given = self.state;
+        let ticket = rows::u64_of(rows::at(row, 1));
+        let done = retune::commit(
+            given,
+            ticket,
+            params,
+            banks.h(room),
+            banks.g(room),
+            banks.k(room),
+        );
+        let verdict = done.verdict;
+        let state = done.state;
+        let mut next = self;
+        next.state = state;
+        next.counted(answer::of_retune(verdict).is(rows::rest(row, 2)))
+    }
+
     // Whether a row that leaves all as it is has the answer. No call answers a row of another kind.
     fn is_answered(self, row: &[i64], room: &[i32], out: &[i64]) -> bool {
         let kind = rows::at(row, 0);
@@ -201,6 +235,9 @@ impl Replay {
         if kind == 12 {
             return self.is_reading(row, room);
         }
+        if kind == 13 {
+            return self.is_asked(row, room);
+        }
         false
     }
 
@@ -214,6 +251,9 @@ impl Replay {
             let given = arith::least(self.values, values.len());
             let places = arith::least(rows::u64_of(rows::at(row, 1)) as usize, out.len());
             return self.processed(row, room, &values[0..given], &mut out[0..places]);
+        }
+        if kind == 14 {
+            return self.committed(row, room);
         }
         self.counted(self.is_answered(row, room, &*out))
     }

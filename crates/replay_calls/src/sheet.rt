@@ -11,7 +11,7 @@ impl Sheet {
     // A sheet whose fields are all 0, with no coefficients.
     pub(crate) fn empty() -> Sheet {
         Sheet {
-            params: places::no_sheet(),
+            params: fields::none(),
             banks: Banks::none(),
         }
     }

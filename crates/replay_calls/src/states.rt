@@ -1,6 +1,8 @@
-// A state as 186 numbers: nco, t_acc, v, period, gain_acc, symbols, head, oldest, waiting, samples; the line's 64 pairs i, q; the 24 pairs e, err of the
-// ring in which errors wait. Both as they are stored.
+// A state as 204 numbers: nco, t_acc, v, period, gain_acc, symbols, head, oldest, waiting, samples; the 18 fields of the held sheet; the line's 64 pairs i, q;
+// the 24 pairs e, err of the ring in which errors wait. Both as they are stored.
 use crate::answer;
+use params::Params;
+use places::ReadSheet;
 use registers::Pending;
 use registers::Registers;
 use state::Frontend;
@@ -16,6 +18,21 @@ fn registers_of(numbers: &[i64]) -> Registers {
         period: arith::wrap_u32(rows::at(numbers, 3)),
         gain_acc: arith::wrap_u32(rows::at(numbers, 4)),
         symbols: rows::u64_of(rows::at(numbers, 5)),
+    }
+}
+
+// Where these are the fields of no sheet, the held sheet is zeros.
+fn held_of(numbers: &[i64]) -> Params {
+    let mut sheet = [0i64; 18];
+    let mut n: usize = 0;
+    while n < 18 {
+        let v = rows::at(numbers, n);
+        sheet[n] = v;
+        n += 1;
+    }
+    match places::read_sheet(&sheet) {
+        ReadSheet::Sheet(params) => params,
+        ReadSheet::Refused(_) => fields::none(),
     }
 }
 
@@ -50,10 +67,11 @@ fn pending_of(numbers: &[i64]) -> [Pending; RING_PLACES] {
 // The state that these numbers are.
 pub(crate) fn of_numbers(numbers: &[i64]) -> Frontend {
     Frontend {
+        params: held_of(rows::rest(numbers, 10)),
         registers: registers_of(numbers),
-        line: line_of(rows::rest(numbers, 10)),
+        line: line_of(rows::rest(numbers, 28)),
         head: rows::u64_of(rows::at(numbers, 6)) as usize,
-        pending: pending_of(rows::rest(numbers, 138)),
+        pending: pending_of(rows::rest(numbers, 156)),
         oldest: rows::u64_of(rows::at(numbers, 7)) as usize,
         waiting: rows::u64_of(rows::at(numbers, 8)) as usize,
         samples: rows::u64_of(rows::at(numbers, 9)),
@@ -91,8 +109,15 @@ fn is_pending(pending: [Pending; RING_PLACES], numbers: &[i64]) -> bool {
     true
 }
 
+fn is_held(params: Params, numbers: &[i64]) -> bool {
+    let mut sheet = [0i64; 18];
+    places::write_sheet(params, &mut sheet);
+    answer::begins(numbers, &sheet)
+}
+
 // Whether these are the numbers of a state, no fewer and no more.
 pub(crate) fn is(state: Frontend, numbers: &[i64]) -> bool {
+    let held = state.params;
     let registers = state.registers;
     let line = state.line;
     let pending = state.pending;
@@ -108,8 +133,9 @@ pub(crate) fn is(state: Frontend, numbers: &[i64]) -> bool {
         rows::i64_of(state.waiting as u64),
         rows::i64_of(state.samples),
     ];
-    numbers.len() == 186
+    numbers.len() == 204
         && answer::begins(numbers, &first)
-        && is_line(line, rows::rest(numbers, 10))
-        && is_pending(pending, rows::rest(numbers, 138))
+        && is_held(held, rows::rest(numbers, 10))
+        && is_line(line, rows::rest(numbers, 28))
+        && is_pending(pending, rows::rest(numbers, 156))
 }

@@ -23,7 +23,7 @@ impl Head {
         let taken = Input::new().take(1, &types, &mut values, bytes);
         let rest = taken.rest;
         let stop = taken.stop;
-        let params = places::no_sheet();
+        let params = fields::none();
         if !stop.is_no() {
             return Head { params, rest, stop };
         }

@@ -11,16 +11,20 @@ use crate::sheet::Sheet;
 use crate::state::{RING, State};
 use isdb_frontend::tables::cos_table;
 use std::borrow::Cow;
+use std::sync::LazyLock;
 
 /// Numbers that a symbol writes.
 pub const SYMBOL: usize = 20;
 
-/// A sheet and what isdb-rs says of it, with the cosine wheel.
+/// The cosine wheel.
+static WHEEL: LazyLock<Vec<i128>> =
+    LazyLock::new(|| cos_table().into_iter().map(i128::from).collect());
+
+/// A sheet and what isdb-rs says of it.
 #[derive(Clone)]
 pub struct Reading<'a> {
     sheet: Cow<'a, Sheet>,
     refusal: Vec<i64>,
-    wheel: Vec<i128>,
 }
 
 /// What a block answers.
@@ -69,7 +73,6 @@ impl<'a> Reading<'a> {
         Self {
             refusal: sheet.judge(),
             sheet,
-            wheel: cos_table().into_iter().map(i128::from).collect(),
         }
     }
 

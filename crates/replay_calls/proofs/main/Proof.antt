@@ -1,6 +1,7 @@
 -- `replay_calls::main` is safe and ends: the measure is the number of turns that are left.
 -- The rooms keep their lengths from piece to piece.
 use mathlib.Core.Path.{_≡_}
+use native.Mathlib.Omega.{arith}
 use lib.ListN.{length}
 use borrow.Author.Needs.{needs}
 use Rattle.replay_calls.proofs.main.Statement.{statement}
@@ -58,11 +59,15 @@ slice-aggregate-piece-5 c = search needs
 piece-requires : tie.Need-piece-requires Inv-loop μ-loop
 piece-requires c κs = search needs
 
+-- what the loop's test said lies far back
+abbrev turned : tie.After-out2 Inv-loop μ-loop → tie.In-loop Inv-loop μ-loop
+turned c = c .before .before .before .before .before .before .before .before .before .before .before .before .before .before .before .before
+
 sub-turns : tie.Need-sub-turns Inv-loop μ-loop
-sub-turns c = search needs
+sub-turns c = omega (arith, turned c)
 
 loop-less : tie.Need-loop-less Inv-loop μ-loop
-loop-less c = search needs
+loop-less c = omega (arith, turned c)
 
 loop-again : tie.Need-loop-again Inv-loop μ-loop
 loop-again c = search needs

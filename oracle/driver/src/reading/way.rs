@@ -1,6 +1,6 @@
 //! A sample's way: mixed, into the line, and out as a symbol when one is due.
 
-use super::{Reading, SYMBOL};
+use super::{Reading, SYMBOL, WHEEL};
 use crate::state::{RING, State};
 
 /// A sample, the unit of t and of periods.
@@ -19,7 +19,7 @@ pub(super) struct Symbol {
 impl Reading<'_> {
     /// Takes a pair, and gives the symbol that it brings, if it brings one.
     pub(super) fn sample(&self, s: &mut State, pair: [i128; 2]) -> Option<Symbol> {
-        let mixed = self.mixed(s.nco, pair);
+        let mixed = mixed(s.nco, pair);
         s.nco = (s.nco + i128::from(self.sheet.nco_step)).rem_euclid(1 << 32);
         s.head = (s.head - 1).rem_euclid(self.sheet.taps.into());
         s.line[s.head as usize] = mixed;
@@ -27,12 +27,6 @@ impl Reading<'_> {
         s.t_acc -= ONE;
         s.samples += 1;
         symbol
-    }
-
-    fn mixed(&self, nco: i128, [i, q]: [i128; 2]) -> [i128; 2] {
-        let at = (nco >> 22) as usize;
-        let (c, s) = (self.wheel[at], self.wheel[(at + 768) % 1024]);
-        [(i * c - q * s + 16384) >> 15, (i * s + q * c + 16384) >> 15]
     }
 
     fn symbol(&self, s: &mut State) -> Symbol {
@@ -92,6 +86,12 @@ impl Reading<'_> {
         };
         [sum(0), sum(1)]
     }
+}
+
+fn mixed(nco: i128, [i, q]: [i128; 2]) -> [i128; 2] {
+    let at = (nco >> 22) as usize;
+    let (c, s) = (WHEEL[at], WHEEL[(at + 768) % 1024]);
+    [(i * c - q * s + 16384) >> 15, (i * s + q * c + 16384) >> 15]
 }
 
 /// Takes out the errors that have waited longest. Their place keeps them.
