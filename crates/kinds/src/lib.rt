@@ -3,7 +3,6 @@
 // A place is a signed number of 64 bits, in which sheets, states and answers cross to C and in which the fields of a line are read.
 ghost use mathlib.Core.Path.{_≡_};
 ghost use mathlib.Core.Bool.{_&&_};
-ghost use lib.ListN.{length, replicate};
 ghost use Rattle.kinds.specs.Kinds.{leastOf, mostOf, isKind, areKinds, placesNumber};
 
 pub const U8: u8 = 0;
@@ -82,23 +81,6 @@ pub fn are_kinds(kinds: &[u8], places: &[i64]) -> bool
     let mut n: usize = 0;
     while n < kinds.len() {
         good = both(good, is_kind(kinds[n], places[n]));
-        n += 1;
-    }
-    good
-}
-
-// Whether all places hold numbers of this kind. Its ends are taken once and not place by place, and no number ends the loop: over the 176 places of a state
-// that are of one kind the compiler then tests four places a turn.
-pub fn are_all(kind: u8, places: &[i64]) -> bool
-    ensures { λ r. ⌜ r ≡ areKinds (replicate (length (now (places .entry))) kind) (now (places .entry)) ⌝ }
-{
-    let least = least_of(kind);
-    let most = most_of(kind);
-    let mut good = true;
-    let mut n: usize = 0;
-    while n < places.len() {
-        let v = places[n];
-        good = both(good, both(least <= v, v <= most));
         n += 1;
     }
     good

@@ -243,13 +243,9 @@ impl Call {
 
     /// Another sheet than the one that the state holds, as a retune has it.
     fn other_sheet(&mut self, fields: &Fields, state: &Read, r: &mut Random) {
-        let at = At {
-            sheet: fields,
-            sheets: std::slice::from_ref(fields),
-            state,
-        };
         let change = r.pick(&Change::ALL);
-        self.sheet = Sheet::from(&at.changed(change, r));
+        let other = At::first(fields, state).changed(change, r);
+        self.sheet = Sheet::from(&other);
     }
 
     /// As many samples as can be counted, or almost as many, before the block: before all its pairs, or before those that it has

@@ -96,15 +96,8 @@ pub fn any_held(r: &mut Random, sheet: &Sheet, state: &State) -> Held {
         }
         .fields(),
         _ => {
-            let sheets = std::slice::from_ref(sheet);
             let change = r.pick(&Change::ALL);
-            At {
-                sheet,
-                sheets,
-                state,
-            }
-            .changed(change, r)
-            .fields()
+            At::first(sheet, state).changed(change, r).fields()
         }
     }
 }

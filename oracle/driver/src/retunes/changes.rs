@@ -90,7 +90,16 @@ pub struct At<'a> {
     pub state: &'a State,
 }
 
-impl At<'_> {
+impl<'a> At<'a> {
+    /// Where no other sheet was in force.
+    pub fn first(sheet: &'a Sheet, state: &'a State) -> Self {
+        Self {
+            sheet,
+            sheets: std::slice::from_ref(sheet),
+            state,
+        }
+    }
+
     /// The sheet in force, changed.
     pub fn changed(&self, change: Change, r: &mut Random) -> Sheet {
         let mut sheet = self.sheet.clone();
