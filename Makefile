@@ -23,7 +23,7 @@ run: kit
 	@RT='$(RT)' sh tools/prove.sh target/run.out check symbols replay_leaves replay_calls replay_floats
 	@echo "The symbols of crates/symbols/stdin, a sheet, its banks and three pairs:"
 	@target/bin/symbols <crates/symbols/stdin
-	@echo "Replaying the answers of isdb-rs that are stored in crates/replay_*/stdin:"
+	@echo "Replaying the answers of isdb-rs and of the oracle's reading of the rules, crates/replay_*/stdin:"
 	@target/bin/replay_leaves <crates/replay_leaves/stdin
 	@target/bin/replay_calls <crates/replay_calls/stdin
 	@target/bin/replay_floats <crates/replay_floats/stdin

@@ -26,7 +26,7 @@ static const char *const refusals[] = {
     "the periods are not 2^24 < min <= nominal <= max < 2^26",
     "a field is outside its range",
     "agc_shift is above 63",
-    "the state cannot go on under this sheet: it holds another one, or is outside its bounds",
+    "the state cannot go on under this sheet: it is outside its bounds, or, but for a retune, holds another one",
     "an odd number of sample values",
     "no room for one symbol, or too few places for the answer",
     "more than 2^63 - 1 samples in all",

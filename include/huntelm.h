@@ -39,7 +39,7 @@
  *   the loop above does, or they are lost without a refusal.
  *
  * What a state holds
- *   The 18 fields of its sheet, from the start on. A block or a reading that is given a sheet with another field is refused (9). It holds no banks: whoever
+ *   The 18 fields of its sheet, from the start on. A block or a reading that is given a sheet that differs in a field is refused (9). It holds no banks: whoever
  *   gives the same fields with other banks is not refused, and gets the symbols of these banks. huntelm_state_commit puts another sheet into a state while it
  *   runs, so that a carrier keeps its lock under new loop gains.
  *
@@ -61,11 +61,11 @@
  * What the calls owe you
  *   No values and no lengths are wrong to call with. Whatever is lent, a call answers: 0, or where something is wrong the number of the refusal (enum
  *   huntelm_refusal). Of several faults it is the first in the order that the call's comment has. A call that refuses has written nothing. All this is proved
- *   of the archive's functions, for every input; the inline calls only pass their objects on.
+ *   of the archive's functions, for every input; the inline calls do no more than pass their objects on, and a ticket back.
  *
  * What you owe the calls
- *   A pointer is good for its length: so many elements of its type stand there, aligned, with values in them, and can be written where it is not const. A
- *   length counts elements, not bytes. With length 0 a pointer may be anything, NULL too: nothing is read or written through it. An array that a call names
+ *   A pointer is good for its length: so many elements of its type stand there, aligned, and can be written where it is not const. What is only read has values
+ *   in it, and so has a state but at its start. A length counts elements, not bytes. With length 0 a pointer may be anything, NULL too: nothing is read or written through it. An array that a call names
  *   with its size, as answer[HUNTELM_BLOCK_PLACES], has that many elements at least.
  *   An object or buffer that is lent for writing overlaps no other one of the call. Those that are only read may overlap: h and k may be one bank.
  *   Nobody else writes what is lent while the call runs.
@@ -199,14 +199,15 @@ static inline uint32_t huntelm_state_read(const struct huntelm_state *state, con
  * cannot go on under the new sheet; 27 other taps than the held ones.
  *
  * In a run 9 says that the period or the integrator is outside the new clamps (period_min .. period_max, integrator_max). They move with the symbols: wait for
- * the next block and ask again, or widen the sheet. Fewer taps may be 9 as well, where the newest sample of the line stands behind them; waiting makes it 27.
+ * the next block and ask again, or widen the sheet. Fewer taps may be 9 as well, where the newest sample of the line stands behind them, and may stay so
+ * however long one waits: take the held ones.
  */
 static inline uint32_t huntelm_state_ask(const struct huntelm_state *state, const struct huntelm_sheet *sheet, uint64_t *ticket);
 
 /*
  * Puts another sheet into a state, which then holds its 18 fields; they act from the next sample on. Nothing else changes: registers, counts, line and waiting
- * errors stay. The period stays too where the new nominal period is another one, and moves when the next errors are applied. So a commit before the first
- * sample is not a start with that sheet: the first symbols, delay of them, have the period and the gain of the start.
+ * errors stay. The period stays too where the new nominal period is another one, and moves when the next errors are applied. So who commits
+ * at once behind a start has not started with that sheet: the first symbols, delay of them, have the period and the gain of the start.
  *
  * Ask, show what is refused, and commit, all before the next block; so no symbol comes between:
  *
@@ -223,7 +224,7 @@ static inline uint32_t huntelm_state_ask(const struct huntelm_state *state, cons
  *     }
  *
  * Where it is refused the state runs on under the sheet that it holds, and where that is by 9 the loop asks again before the next block. From the commit on
- * blocks are given the new sheet with its banks. Symbols behind a commit are not those of a run without it: whoever keeps a list keeps its commits with it,
+ * blocks are given the new sheet with its banks. Symbols behind a commit are, as a rule, not those of a run without it: whoever keeps a list keeps its commits with it,
  * each with its sheet, its banks and the samples before it (HUNTELM_STATE_SAMPLES).
  *
  * Refusals, in order: those of huntelm_state_ask; 28 the ticket is not the number of the state's symbols.
@@ -456,7 +457,7 @@ static inline uint32_t huntelm_state_read(const struct huntelm_state *state, con
 }
 
 static inline uint32_t huntelm_state_ask(const struct huntelm_state *state, const struct huntelm_sheet *sheet, uint64_t *ticket) {
-    int64_t symbols;
+    int64_t symbols = 0;
     uint32_t refused = huntelm_ask(sheet->places, HUNTELM_SHEET_PLACES, sheet->h, sheet->h_len, sheet->g, sheet->g_len, sheet->k, sheet->k_len,
                                    state->places, HUNTELM_STATE_PLACES, state->line, HUNTELM_LINE_NUMBERS, state->errors, HUNTELM_ERROR_NUMBERS,
                                    &symbols, 1);

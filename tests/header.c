@@ -781,7 +781,7 @@ static void retuned_run(void) {
     expect("the integrator stays", state.places[HUNTELM_STATE_V], 156240);
 }
 
-/* A commit before the first sample is not a start: the first symbols, three here, have the period and the gain of the start. */
+/* A commit right behind a start is no start: the first symbols, three here, have the period and the gain of the start. */
 static void commit_before_the_first_sample(void) {
     static const int16_t values[14] = {1000, -1000, 1000, -1000, 1000, -1000, 1000, -1000, 1000, -1000, 1000, -1000, 1000, -1000};
     size_t n;

@@ -292,9 +292,9 @@ impl Frontend {
         Ok(ticket[0] as u64)
     }
 
-    /// Puts other parameters, with their banks, into the running front end, so that the carrier keeps its lock under new loop gains. They hold from the next
+    /// Puts other parameters, with their banks, into the running front end, so that the carrier keeps its lock under new loop gains. They act from the next
     /// sample on. Nothing else changes: registers, counts, line and waiting errors stay. The period stays too, where the new nominal period is another one,
-    /// and moves when the next errors are applied. So a retune before the first sample is not a start with these parameters.
+    /// and moves when the next errors are applied. So a retune right behind a start is another thing than a start with these parameters.
     ///
     /// Ask before a block, and retune before it too:
     ///
@@ -332,7 +332,7 @@ impl Frontend {
     /// ```
     ///
     /// The parameters are handed over, as to [`new`](Self::new). Where the retune is refused they are dropped, and the front end goes on with its own. After
-    /// [`ask`](Self::ask) that cannot happen before the next symbol is made; who wants them in any case hands over a copy.
+    /// [`ask`](Self::ask) that cannot happen before the next symbol is made; whoever wants to keep them hands over a copy.
     ///
     /// A list of symbols with a retune in it is a list of its own. To make it again one needs the parameters with their banks, and how many
     /// [`samples`](Self::samples) came before them.

@@ -130,7 +130,7 @@ impl fmt::Display for Refusal {
             Self::PeriodBounds => "the periods are not 2^24 < min <= nominal <= max < 2^26",
             Self::Range => "a field of the sheet is outside its range",
             Self::AgcShift => "agc_shift is above 63",
-            Self::State => "the state cannot go on under this sheet: it holds another one, or is outside its bounds",
+            Self::State => "the state cannot go on under this sheet: it is outside its bounds, or, but for a retune, holds another one",
             Self::OddInput => "the number of sample values is odd",
             Self::ShortOutput => "there are too few places for the answer or for one symbol",
             Self::TooManySamples => "there are more than 2^63 - 1 samples in all",

@@ -1,6 +1,6 @@
 -- What the calls of the C interface answer, for any places, banks and buffers. The answers are those of judging, starting, the block, reading, asking,
--- committing, the offset and a design with its sheet; ours is only how they cross: refusals by number alone, sheets and states as places, and no buffer touched
--- by a call that is refused. (Float samples: crates/input.)
+-- committing, the offset and a design with its sheet; ours is only how they cross: refusals by number alone, sheets as places and states as three slices, and no
+-- buffer touched by a call that is refused. (Float samples: crates/input.)
 -- (RULES 8.5)
 use Prim.Native.Nat.{ℕ}
 use mathlib.Core.Bool.{cond}
@@ -81,7 +81,7 @@ askAnswer l h g k state places =
     answered (firstNumber (sheetNumber l) (firstNumber (stateNumber s state) (firstNumber (a .refused .number) (cond (leb 1 (length places)) 0 11))))
     (pos (a .ticket) ∷ drop 1 places) places
 
--- Committing: the same up to what committing refuses of a state. Of the state's slices the places alone are written.
+-- Committing: 18 and 19, 1 to 8, 29, 9 of slices that are no state, then 29, 9, 27 and 28 of the state. Of its slices the places alone are written.
 unfoldable pub commitAnswer : ℕ → List ℤ → List ℤ → List ℤ → List ℤ → Slices → Answer
 commitAnswer ticket l h g k state =
     let s : Sheet = sheetAt l h g k in

@@ -1,9 +1,9 @@
 -- States cross unchanged. A place without its sign is the place where it has none, the held sheet crosses as a sheet does (Sheets), and taking pairs apart and
 -- putting them together undo each other (Pairs).
 use Prim.Native.Nat.{ℕ, suc, _*_, _%_, _<_}
-use mathlib.Core.Path.{_≡_, refl, ap, _∙_}
+use mathlib.Core.Path.{_≡_, refl}
 use mathlib.Core.Bool.{true}
-use mathlib.Core.List.{List, _∷_, _++_}
+use mathlib.Core.List.{List, _∷_}
 use native.Mathlib.Omega.{arith}
 use lib.Dec.{lit<}
 use lib.ListN.{length, getD, drop}
@@ -13,7 +13,7 @@ use Rattle.state.specs.declared.Pair.{Pair}
 use Rattle.registers.specs.declared.Pending.{Pending}
 use Rattle.state.specs.declared.Frontend.{Frontend}
 use Rattle.kinds.specs.Kinds.{at, isKind, areKinds}
-use Rattle.places.specs.Sheet.{sheetKinds, paramsAt, sheetNumbers}
+use Rattle.places.specs.Sheet.{sheetKinds, sheetNumbers}
 use Rattle.places.specs.States.{Slices, lineOf, pendingOf, lineNumbers, pendingNumbers, firstKinds, stateFits, registersAt, stateOf, numbersOf}
 use Rattle.places.specs.Crossing.{Whole, Typed, StatesCross}
 use Rattle.arith.proofs.Both.{and-both}

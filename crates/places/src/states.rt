@@ -105,7 +105,8 @@ fn pending_of(numbers: &[i32]) -> [Pending; RING_PLACES]
     pending
 }
 
-// The state that these slices are. Where they are none it is zeros throughout, and 9 refuses these: no sheet has a period of 0.
+// The state that these slices are. Where they are none it is zeros throughout, which 9 refuses: no sheet has a period of 0. (A retune
+// would meet the held delay of 0 before that, so it asks `is_state` first.)
 pub fn read_state(places: &[i64], line: &[i32], errors: &[i32]) -> Frontend
     ensures { λ r. ⌜ r ≡ readState (slices (now (places .entry)) (now (line .entry)) (now (errors .entry))) ⌝ }
 {

@@ -1,5 +1,5 @@
-// Replays the oracle's answers to whole calls: judging a sheet, the offset of a period, starting, blocks of samples, readings, retunes. Standard input has a row
-// for each part of a call; the program makes the call and counts where it answers something else.
+// Replays the oracle's answers to whole calls: judging a sheet, the offset of a period, starting, blocks of samples, readings, retunes. Standard input has a
+// row for each part of a call; the program makes the call and counts where it answers something else.
 //
 // A row's numbers stand for a sheet (sheet.rt), an answer (answer.rt) or a state (states.rt), and calls.rt does what the row says.
 mod answer;

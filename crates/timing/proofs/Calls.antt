@@ -1,7 +1,8 @@
--- What a call does is what a run over the samples that it took does: a block takes its first pairs, as many as it answers, and a refused one took none; a commit
--- takes none, and changes the held sheet alone. So what a list of calls wrote, counted and clipped is that of the symbols that its blocks made, one after another.
+-- What a call does is what a run over the samples that it took does: a block takes its first pairs, as many as it answers, and a refused one took none; a
+-- commit takes none, and changes the held sheet alone. So what a list of calls wrote, counted and clipped is that of the symbols that its blocks made, one
+-- after another.
 use Prim.Native.Nat.{ℕ, _+_, _*_}
-use mathlib.Core.Path.{_≡_, refl, sym, ap, _∙_}
+use mathlib.Core.Path.{_≡_, refl, sym}
 use mathlib.Core.Bool.{Bool, true, false, cond}
 use mathlib.Core.List.{List, [], _∷_, _++_}
 use native.Mathlib.Omega.{arith}
@@ -9,14 +10,13 @@ use lib.Dec.{eqb}
 use lib.ListN.{length, take, drop, length-append}
 use lib.Seq.{take-at}
 use lib.IntN.{ℤ}
-use borrow.Author.Tests.{eqb-true}
 use Rattle.params.specs.Refusal.{firstOf}
 use Rattle.params.specs.Judge.{Sheet}
 use Rattle.state.specs.declared.Pair.{Pair}
 use Rattle.state.specs.declared.Frontend.{Frontend}
 use Rattle.symbol.specs.declared.Symbol.{Symbol}
 use Rattle.state.specs.Check.{pairsTaken, blockFaults}
-use Rattle.retune.specs.Retune.{retuned, commitFaults, commitOf}
+use Rattle.retune.specs.Retune.{retuned, commitOf}
 use Rattle.fixed.specs.Sample.{after, emitted}
 use Rattle.fixed.specs.Block.{pairsOf, flattened, clipsOf, accepted, blockOf}
 use Rattle.fixed.proofs.Runs.{flattened-append, length-flattened, clips-append, run-samples}

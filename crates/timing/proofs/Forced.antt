@@ -1,20 +1,18 @@
--- The sheet in force at each sample of a list that keeps to its sheets is what its commits say: the last one that was made before this sample, or the start's. So
--- such a list is a run under a schedule that its accepted commits alone decide, up to a sample those up to it.
-use Prim.Native.Nat.{ℕ, suc, _+_, _≤_, _<_}
+-- The sheet in force at each sample of a list that keeps to its sheets is what its commits say: the last one that was made before this sample, or the
+-- start's. So such a list is a run under a schedule that its accepted commits alone decide, up to a sample those up to it.
+use Prim.Native.Nat.{ℕ, _+_, _≤_, _<_}
 use mathlib.Core.Path.{_≡_, refl, sym, ap, subst, _∙_}
 use mathlib.Core.Bool.{Bool, true, false, cond}
 use mathlib.Core.List.{List, [], _∷_, _++_}
 use native.Mathlib.Omega.{arith}
 use lib.Dec.{leb, eqb}
-use lib.ListN.{length, getD, replicate}
-use lib.Seq.{getD-at}
-use lib.IntN.{ℤ}
+use lib.ListN.{length, replicate}
 use borrow.Author.Tests.{le-leb, lt-leb, leb-false, eqb-true}
 use Rattle.params.specs.declared.Params.{Params}
 use Rattle.params.specs.Judge.{Sheet}
 use Rattle.state.specs.declared.Frontend.{Frontend}
 use Rattle.retune.specs.Retune.{retuned, commitOf}
-use Rattle.fixed.specs.Block.{blockOf, accepted}
+use Rattle.fixed.specs.Block.{blockOf}
 use Rattle.fixed.proofs.Refused.{number-first}
 use Rattle.fixed.proofs.Runs.{run-params}
 use Rattle.timing.specs.Lists.{Call, block, commit, CommitAt, stateBy, takenBy, stateAfter, committedBy, commits, sheetBy, Keeps, KeepTo}
@@ -147,7 +145,8 @@ unfolding lastFields retuned
 call-fields n f (block s values out) = rw (block-state s f values out) (run-params s f (pairsOfBlock s f values out))
 call-fields n f (commit s ticket) = go (eqb (commitOf s ticket f .refused .number) 0) refl
   where
-    go : (b : Bool) → eqb (commitOf s ticket f .refused .number) 0 ≡ b → commitOf s ticket f .state .params ≡ lastFields (f .params) (committedBy n f (commit s ticket))
+    go : (b : Bool) → eqb (commitOf s ticket f .refused .number) 0 ≡ b
+        → commitOf s ticket f .state .params ≡ lastFields (f .params) (committedBy n f (commit s ticket))
     go true e = rw (commit-state s ticket f true e, e)
     go false e = rw (commit-state s ticket f false e, e)
 

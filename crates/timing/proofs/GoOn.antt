@@ -1,10 +1,10 @@
--- Behind a list, 9 says that the sheet is another than the held one, and nothing else. The invariant gives each test that a call makes of a state: the registers
--- stay within the held sheet's clamps, the positions within the line and the queue, and there is at most one symbol a sample. So under the held sheet only what a
--- block brings itself, 10 to 12, can refuse it; and under another the comparison of the two sheets fails.
+-- Behind a list, 9 says that the sheet is another than the held one, and nothing else. The invariant gives each test that a call makes of a state: the
+-- registers stay within the held sheet's clamps, the positions within the line and the queue, and there is at most one symbol a sample. So under the held
+-- sheet only what a block brings itself, 10 to 12, can refuse it; and under another the comparison of the two sheets fails.
 use Prim.Native.Nat.{ℕ, _+_, _%_, _≤_}
 use mathlib.Core.Path.{_≡_, refl, sym, ap, subst, _∙_}
 use mathlib.Core.Logic.{_⊎_, inl, inr}
-use mathlib.Core.Bool.{Bool, true, false, _&&_, _||_}
+use mathlib.Core.Bool.{Bool, true, false, _||_}
 use mathlib.Core.List.{List, [], _∷_, _++_, flatten}
 use native.Mathlib.Omega.{arith}
 use lib.Dec.{eqb, leb}
@@ -12,20 +12,19 @@ use lib.ListN.{length}
 use lib.IntN.{ℤ}
 use Rattle.arith.proofs.Both.{and-both}
 use Rattle.params.specs.declared.Params.{Params}
-use Rattle.params.specs.Refusal.{Refusal, refusal, nothing, unless, firstOf}
-use Rattle.params.specs.Judge.{Sheet, faults, judged}
+use Rattle.params.specs.Refusal.{Refusal, refusal, unless, firstOf}
+use Rattle.params.specs.Judge.{Sheet, faults}
 use Rattle.params.proofs.Accepted.{judged-none}
 use Rattle.fields.specs.Fields.{sameFields}
 use Rattle.fields.proofs.Same.{equal-sheets, same-sheet}
 use Rattle.state.specs.declared.Frontend.{Frontend}
-use Rattle.state.specs.Start.{startOf}
 use Rattle.state.specs.Check.{goodState, canGoOn, stateFaults, pairsTaken, sizeFaults, blockFaults}
 use Rattle.state.specs.Read.{readOf}
 use Rattle.state.proofs.Going.{Going, good}
 use Rattle.fixed.specs.Block.{blockOf}
 use Rattle.fixed.proofs.Refused.{number-first}
-use Rattle.timing.specs.Lists.{Call, endState}
-use Rattle.timing.specs.Timing.{GoesOn, StatesGoOn}
+use Rattle.timing.specs.Lists.{endState}
+use Rattle.timing.specs.Timing.{StatesGoOn}
 use Rattle.timing.proofs.Timing.{ends-going}
 
 -- no refusal, or one of 10 to 12

@@ -23,12 +23,12 @@ use Rattle.state.specs.declared.Frontend.{Frontend}
 use Rattle.symbol.specs.declared.Symbol.{Symbol}
 use Rattle.state.specs.Start.{ringPlaces, noPending, fresh}
 use Rattle.registers.specs.Step.{isDue, one, found, left}
-use Rattle.fixed.specs.Sample.{due, symbolOf, joined, withSymbol, withoutSymbol, falls, next, madeBy, after, emitted}
+use Rattle.fixed.specs.Sample.{due, symbolOf, joined, withSymbol, withoutSymbol, falls, next, madeBy}
 use Rattle.symbol.specs.Make.{symbolFrom}
 use Rattle.retune.specs.Retune.{retuned}
 use Rattle.state.proofs.Going.{time, minus-nat, Going}
 use Rattle.fixed.proofs.States.{head-below, due-time, due-symbols}
-use Rattle.registers.proofs.Loops.{Loop, loopOf, moved, corrected-moves, Within, moved-within}
+use Rattle.registers.proofs.Loops.{Loop, loopOf, corrected-moves, Within, moved-within}
 use Rattle.timing.proofs.Errors.{total, total-append, errors, errorsOf, errors-append, length-errors}
 use Rattle.timing.proofs.Errors.{movedBy, movedBy-next, movedBy-take, freshLoop, fresh-within}
 
@@ -220,7 +220,15 @@ module _ (p₀ : Params) (P : ℕ → Params) where
             let q : oldest ≡ getD (errors S) n noPending = rw (i .oldest) (i .queue n (omega (arith, a .fields)) (omega arith)) in
             let many : length before ≡ n = omega (arith, length-drop delay (fieldsOf S), length-fields S) in
             let new : drop delay (fieldsOf S ++ (p ∷ [])) ≡ before ++ (p ∷ []) = drop-append-le delay (fieldsOf S) (p ∷ []) (omega (arith, length-fields S)) in
-            rw (e, corrected-moves p (f .registers) oldest, i .loop, q, new, movedBy-next (freshLoop p₀) before p (errors S) (omega (arith, length-errors S)), many)
+            rw (
+              e,
+              corrected-moves p (f .registers) oldest,
+              i .loop,
+              q,
+              new,
+              movedBy-next (freshLoop p₀) before p (errors S) (omega (arith, length-errors S)),
+              many,
+            )
         go false e =
             let c : f .waiting ≢ p .delay = eqb-false (f .waiting) (p .delay) e in
             let none : drop delay (fieldsOf S) ≡ [] = drop-of-length-le (fieldsOf S) {i = delay} (omega (arith, length-fields S, i .same-delay)) in

@@ -4,7 +4,6 @@ use Prim.Native.Nat.{ℕ, suc, _+_}
 use mathlib.Core.Path.{_≡_, refl, sym, ap, subst, _∙_}
 use mathlib.Core.Bool.{Bool, true, false}
 use mathlib.Core.List.{List, [], _∷_, _++_, append-assoc, append-nil}
-use native.Mathlib.Omega.{arith}
 use lib.Dec.{eqb}
 use lib.ListN.{length, replicate}
 use lib.IntN.{ℤ}
@@ -43,7 +42,8 @@ module _ (p₀ : Params) (Q : ℕ → Sheet) where
   -- ---- the samples of a block
 
   module _ (s : Sheet) (a : Accepted s) where
-    on : (f : Frontend) (x : Pair) (xs : List Pair) → Along Q (suc (f .samples)) (replicate (length xs) s) → Along Q (next s f x .samples) (replicate (length xs) s)
+    on : (f : Frontend) (x : Pair) (xs : List Pair) → Along Q (suc (f .samples)) (replicate (length xs) s)
+        → Along Q (next s f x .samples) (replicate (length xs) s)
     on f x xs l = subst (λ (m : ℕ). Along Q m (replicate (length xs) s)) (sym (next-counts s f x)) l
 
     run-inv : (f : Frontend) (S : List Symbol) (xs : List Pair) → Along Q (f .samples) (replicate (length xs) s) → Holds (s .params) f S

@@ -1,5 +1,5 @@
--- What is claimed of lists of blocks and commits holds: a list is one run whose sheet may change from sample to sample, such a run has an invariant, and the claims
--- follow from it.
+-- What is claimed of lists of blocks and commits holds: a list is one run whose sheet may change from sample to sample, such a run has an invariant, and the
+-- claims follow from it.
 pub mod Errors
 pub mod Invariant
 pub mod Calls

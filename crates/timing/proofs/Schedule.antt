@@ -1,22 +1,18 @@
--- Runs whose sheet may change from sample to sample: sample n goes through the path under the sheet Q n. A list of calls is such a run, over the samples that its
--- blocks took and under the sheets that these were given, with commits between them that change the held sheet alone; and no sample looks at that.
+-- Runs whose sheet may change from sample to sample: sample n goes through the path under the sheet Q n. A list of calls is such a run, over the samples that
+-- its blocks took and under the sheets that these were given, with commits between them that change the held sheet alone; and no sample looks at that.
 use Prim.Native.Nat.{ℕ, zero, suc, _+_, _≤_, _<_}
 use mathlib.Core.Path.{_≡_, refl, sym, ap, subst, _∙_}
 use mathlib.Core.Bool.{Bool, true, false}
-use mathlib.Core.List.{List, [], _∷_, _++_, append-assoc, append-nil}
+use mathlib.Core.List.{List, [], _∷_, _++_, append-assoc}
 use native.Mathlib.Omega.{arith}
 use lib.Dec.{eqb}
-use lib.ListN.{length, getD, take, drop, replicate, length-append, length-replicate, List·getD-append}
-use lib.Seq.{getD-append-add}
-use lib.IntN.{ℤ}
-use borrow.Author.Tests.{eqb-true}
+use lib.ListN.{length, replicate, length-replicate}
 use Rattle.params.specs.declared.Params.{Params}
 use Rattle.params.specs.Judge.{Sheet}
 use Rattle.state.specs.declared.Pair.{Pair}
 use Rattle.state.specs.declared.Frontend.{Frontend}
 use Rattle.symbol.specs.declared.Symbol.{Symbol}
 use Rattle.retune.specs.Retune.{retuned, commitOf}
-use Rattle.symbol.specs.Make.{symbolFrom}
 use Rattle.fixed.specs.Sample.{due, symbolOf, joined, withSymbol, withoutSymbol, falls, next, madeBy, after, emitted}
 use Rattle.fixed.specs.Block.{blockOf}
 use Rattle.fixed.proofs.Runs.{next-samples}

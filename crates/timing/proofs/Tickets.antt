@@ -1,9 +1,10 @@
--- A ticket holds until the next symbol. What asking looks at are the held delay and taps, which no accepted call changes, and registers and counts, of which samples
--- without a symbol move only the time, which goes down to no less than 0, and the count of samples, which goes up; and the line's head, which stays within the taps.
-use Prim.Native.Nat.{ℕ, _+_, _<_}
-use mathlib.Core.Path.{_≡_, refl, sym, ap, subst, _∙_}
-use mathlib.Core.Bool.{Bool, true, false, cond}
-use mathlib.Core.List.{List, [], _∷_, _++_}
+-- A ticket holds until the next symbol. What asking looks at are the held delay and taps, which no accepted call changes, and registers and counts, of which
+-- samples without a symbol move only the time, which goes down to no less than 0, and the count of samples, which goes up; and the line's head, which stays
+-- within the taps.
+use Prim.Native.Nat.{ℕ}
+use mathlib.Core.Path.{_≡_, refl, sym, ap, _∙_}
+use mathlib.Core.Bool.{Bool, true, false}
+use mathlib.Core.List.{List, [], _∷_}
 use native.Mathlib.Omega.{arith}
 use lib.Dec.{eqb}
 use lib.ListN.{length, length-append}
@@ -22,7 +23,7 @@ use Rattle.state.proofs.Going.{time, Going, going, good}
 use Rattle.state.proofs.Verdicts.{block-numbered, Faultless, faultless}
 use Rattle.retune.specs.Retune.{retuned, askOf, commitOf}
 use Rattle.retune.proofs.Verdicts.{Retunes, retunes, no-ask-faults, asked-none, committed-none, commits-none, ticket-is}
-use Rattle.fixed.specs.Sample.{symbolOf, joined, withSymbol, withoutSymbol, falls, next, madeBy, after, emitted}
+use Rattle.fixed.specs.Sample.{joined, withoutSymbol, falls, next, madeBy, after, emitted}
 use Rattle.fixed.specs.Block.{blockOf}
 use Rattle.fixed.proofs.States.{head-below, without-symbol-going}
 use Rattle.fixed.proofs.Runs.{run-params}

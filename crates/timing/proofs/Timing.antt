@@ -1,7 +1,7 @@
--- The theorem on lists of blocks and commits. A list is one run over the samples that its blocks took (Schedule) and keeps the invariant (Kept), which says of each
--- symbol where it lies and what its period and gain are: what the errors of the symbols that lie at least the delay before it make of the first ones, under the
--- sheets in force where they are applied. Of a list that keeps to its sheets the commits say which these are (Forced). So two lists whose first samples and
--- commits agree have the same symbols there, and the same periods, and with them the same places, as many symbols further as the delay.
+-- The theorem on lists of blocks and commits. A list is one run over the samples that its blocks took (Schedule) and keeps the invariant (Kept), which says
+-- of each symbol where it lies and what its period and gain are: what the errors of the symbols that lie at least the delay before it make of the first ones,
+-- under the sheets in force where they are applied. Of a list that keeps to its sheets the commits say which these are (Forced). So two lists whose first
+-- samples and commits agree have the same symbols there, and the same periods, and with them the same places, as many symbols further as the delay.
 use Prim.Native.Nat.{ℕ, zero, suc, _+_, _-_, _*_, _/_, _≤_, _<_}
 use mathlib.Core.Path.{_≡_, refl, sym, ap, subst, _∙_}
 use mathlib.Core.Bool.{Bool, true, false, cond}
@@ -9,13 +9,13 @@ use mathlib.Core.List.{List, [], _∷_, _++_, append-assoc}
 use native.Mathlib.Omega.{arith}
 use native.Mathlib.Decide.{decLt}
 use lib.Dec.{eqb, le→leb}
-use lib.ListN.{length, getD, take, drop, length-take, length-append, length-drop, take-append-drop, List·getD-append}
+use lib.ListN.{length, getD, take, drop, length-take, length-append, length-drop, take-append-drop}
 use lib.Seq.{take-take, take-suc, take-append-le, take-length, length-take-le, getD-take, getD-at, getD-append-add, ext-getD}
 use lib.IntN.{ℤ, pos, natAbs}
 use lib.Signed.{_≤ℤ_}
 use Rattle.params.specs.declared.Params.{Params}
 use Rattle.params.specs.Refusal.{Refusal, nothing}
-use Rattle.params.specs.Judge.{Sheet, judged}
+use Rattle.params.specs.Judge.{Sheet}
 use Rattle.params.proofs.Accepted.{Accepted, judged-none, no-faults}
 use Rattle.fields.specs.Fields.{noFields}
 use Rattle.state.specs.declared.Pair.{Pair}
@@ -29,10 +29,10 @@ use Rattle.symbol.specs.Places.{placesOf}
 use Rattle.symbol.specs.Make.{symbolFrom}
 use Rattle.fixed.specs.Sample.{symbolOf, joined, falls, next, madeBy}
 use Rattle.fixed.specs.Block.{flattened, clipsOf}
-use Rattle.timing.specs.Lists.{Call, block, commit, CommitAt, stateAfter, taken, commits, KeepTo}
+use Rattle.timing.specs.Lists.{Call, block, commit, commits, KeepTo}
 use Rattle.timing.specs.Lists.{startState, samplesOf, endState, placesWritten, symbolCount, clipCount, commitsOf, KeepsToItsSheets}
 use Rattle.timing.specs.Timing.{placeAt, sampleAt, phaseAt, gainAt, periodAt, periodsBefore, Whole, Place, Apart, Rest, AgreeUpTo, upTo, Delayed, SameRun}
-use Rattle.timing.specs.Timing.{TimingHolds, Plain, WithoutCommits}
+use Rattle.timing.specs.Timing.{SameTiming, TimingHolds, AlikeAhead, Plain, WithoutCommits}
 use Rattle.fixed.proofs.Runs.{length-flattened, place-flattened}
 use Rattle.registers.proofs.Loops.{Loop}
 use Rattle.state.proofs.Going.{time, Going}
@@ -232,7 +232,8 @@ module _ (p₀ : Params) (P R : ℕ → Params) (Y Z : List Symbol) (least : 1 �
       let m : ℕ = suc j - d in
       let l₀ : Loop = freshLoop p₀ in
       let fs : List Params = drop d (fieldsOf p₀ P (take (suc j) Y)) in
-      let many : length fs ≤ m = omega (arith, length-drop d (fieldsOf p₀ P (take (suc j) Y)), length-fields p₀ P (take (suc j) Y), length-take-le (suc j) Y y) in
+      let many : length fs ≤ m =
+      omega (arith, length-drop d (fieldsOf p₀ P (take (suc j) Y)), length-fields p₀ P (take (suc j) Y), length-take-le (suc j) Y y) in
       let used : (W : List Symbol) → take m (errors (take j W)) ≡ errors (take m W) =
       λ W. ap (take m) (errors-take j W) ∙ take-take m j (errors W) (omega arith) ∙ sym (errors-take m W) in
       sym (movedBy-take l₀ fs (errors (take j Y)) m many)
@@ -251,7 +252,12 @@ module _ (p₀ : Params) (P R : ℕ → Params) (Y Z : List Symbol) (least : 1 �
     next-fields j h a =
         let sample = same-place j (omega arith) (omega arith) (a .totals) .0 in
         let same : P (at Y j .sample) ≡ R (at Z j .sample) = alike (at Y j .sample) (rising j k h has-y) ∙ ap R sample in
-        rw (take-suc Y j noSymbol (omega arith), take-suc Z j noSymbol (omega arith), fields-append p₀ P (take j Y) (at Y j ∷ []), fields-append p₀ R (take j Z) (at Z j ∷ []))
+        rw (
+          take-suc Y j noSymbol (omega arith),
+          take-suc Z j noSymbol (omega arith),
+          fields-append p₀ P (take j Y) (at Y j ∷ []),
+          fields-append p₀ R (take j Z) (at Z j ∷ []),
+        )
         (λ t. a .fields t ++ (same t ∷ []))
 
     next-loop : (j : ℕ) → j ≤ k → Alike j
@@ -418,7 +424,8 @@ module _ (s : Sheet) (ok : startOf s .refused ≡ nothing) where
         → upTo n (commitsOf s cs) ≡ upTo n (commitsOf s ds) → take (suc i) (made cs) ≡ take (suc i) (made ds)
     front i n h e g u =
         rw (made-is cs kc, made-is ds kd)
-        (same-front (scheduled cs) (startState s) none-yet (scheduled ds) (samplesOf s cs) (samplesOf s ds) i n (rw (made-is cs kc) at h) (rw (made-is cs kc) at e) g
+        (same-front (scheduled cs) (startState s) none-yet (scheduled ds) (samplesOf s cs) (samplesOf s ds) i n
+        (rw (made-is cs kc) at h) (rw (made-is cs kc) at e) g
         (λ m l. same-sheet n m u l))
 
     delayed : (i n : ℕ) → i < symbolCount s cs → sampleAt (placesWritten s cs) i ≡ pos n → AgreeUpTo n (samplesOf s cs) (samplesOf s ds)
@@ -457,6 +464,15 @@ module _ (s : Sheet) (ok : startOf s .refused ≡ nothing) where
               };
         }
 
+    alike-ahead : commitsOf s cs ≡ commitsOf s ds → (i n k : ℕ) → i < symbolCount s cs → sampleAt (placesWritten s cs) i ≡ pos n
+        → AgreeUpTo n (samplesOf s cs) (samplesOf s ds) → k ≤ i + s .params .delay → k < symbolCount s cs → k < symbolCount s ds
+        → SameTiming (placesWritten s cs) (placesWritten s ds) k
+    alike-ahead c i n k h e g b hy hz =
+        let x : k < length (made cs) = rw (counts cs) at hy in
+        let m : ℕ = at (made cs) k .sample in
+        let q : sampleAt (placesWritten s cs) k ≡ pos m = ap (λ (w : List ℤ). sampleAt w k) (wrote cs) ∙ sample-at (made cs) k x in
+        delayed i n h e g (ap (upTo n) c) .ahead k m b hy hz q (ap (upTo m) c)
+
     cuts : samplesOf s cs ≡ samplesOf s ds → commitsOf s cs ≡ commitsOf s ds → SameRun s cs ds
     unfolding scheduled
     cuts e c =
@@ -478,8 +494,11 @@ timing-holds s ok = record {
   apart = apart s ok;
   rest = rest s ok;
   delayed = λ cs ds i n kc kd h e g u. delayed s ok cs ds kc kd i n h e g u;
-  cuts = cuts s ok;
+  cuts = λ cs ds a e. cuts s ok cs ds (a .0) (a .1) e (a .2);
 }
+
+pub alike-lists : AlikeAhead
+alike-lists s ok cs ds a = alike-ahead s ok cs ds (a .0) (a .1) (a .2)
 
 -- ---- lists without commits
 
@@ -497,4 +516,8 @@ module _ (s : Sheet) where
   plain-none n f (commit t ticket ∷ cs) p = absurd p
 
 pub without-commits : WithoutCommits
-without-commits s cs p = (plain-keeps s (startState s) cs p, plain-none s 0 (startState s) cs p)
+without-commits s cs ds p q = (
+  plain-keeps s (startState s) cs p,
+  plain-keeps s (startState s) ds q,
+  plain-none s 0 (startState s) cs p ∙ sym (plain-none s 0 (startState s) ds q),
+)

@@ -1,4 +1,4 @@
--- Lists of calls on a state: blocks and commits, in any order. Each call is given the state that the one before it handed back, whether that was refused or not.
+-- Lists of calls on a state: blocks and commits, in any order. Each call is given the state that the one before it handed back, refused or not.
 -- (RULES 5.1)
 use Prim.Native.Nat.{ℕ, _+_, _*_}
 use mathlib.Core.Path.{_≡_}

@@ -80,6 +80,10 @@ unfoldable pub upTo : ℕ → List CommitAt → List CommitAt
 upTo n [] = []
 upTo n (m ∷ ms) = cond (leb (m .count) n) (m ∷ upTo n ms) (upTo n ms)
 
+-- Two lists from one start are alike: each keeps to its sheets, and the accepted commits of both are the same, in order, behind as many samples.
+abbrev pub Alike : Sheet → List Call → List Call → Type 0
+Alike s cs ds = KeepsToItsSheets s cs × KeepsToItsSheets s ds × (commitsOf s cs ≡ commitsOf s ds)
+
 -- Symbol k is the same in both, in the four places that the loop decides.
 pub record SameTiming (a b : List ℤ) (k : ℕ) : Type 0 where
   pub sample : sampleAt a k ≡ sampleAt b k
@@ -111,32 +115,37 @@ pub record Timing (s : Sheet) : Type 0 where
   pub apart : (cs : List Call) (k : ℕ) → k + 1 < symbolCount s cs → Apart s cs k
   pub rest : (cs : List Call) → Rest s cs
   -- errors act as many symbols later as the delay says and never sooner: the two lists' samples and their commits agree up to symbol i's own sample in the
-  -- first, whatever comes later
+  -- first, whatever samples come later; what is asked of later commits stands in `Delayed`
   pub delayed : (cs ds : List Call) (i n : ℕ) → KeepsToItsSheets s cs → KeepsToItsSheets s ds → i < symbolCount s cs → sampleAt (placesWritten s cs) i ≡ pos n
       → AgreeUpTo n (samplesOf s cs) (samplesOf s ds) → upTo n (commitsOf s cs) ≡ upTo n (commitsOf s ds) → Delayed s cs ds i
   -- how the samples are cut into blocks, and what was refused between them, changes nothing
-  pub cuts : (cs ds : List Call) → KeepsToItsSheets s cs → KeepsToItsSheets s ds → samplesOf s cs ≡ samplesOf s ds → commitsOf s cs ≡ commitsOf s ds
-      → SameRun s cs ds
+  pub cuts : (cs ds : List Call) → Alike s cs ds → samplesOf s cs ≡ samplesOf s ds → SameRun s cs ds
 
 -- All of it holds for every sheet and banks of which starting refuses nothing.
 abbrev pub TimingHolds : Type 0
 TimingHolds = (s : Sheet) → startOf s .refused ≡ nothing → Timing s
 
--- The case without commits: where all calls are blocks under the sheet and the banks of the start, a list keeps to its sheets, and what 4 and 5 ask of commits
--- holds by itself, since there are none.
+-- A corollary, of lists that are alike: ahead of symbol i nothing is left to ask of commits.
+abbrev pub AlikeAhead : Type 0
+AlikeAhead =
+    (s : Sheet) → startOf s .refused ≡ nothing → (cs ds : List Call) → Alike s cs ds → (i n k : ℕ) → i < symbolCount s cs
+    → sampleAt (placesWritten s cs) i ≡ pos n → AgreeUpTo n (samplesOf s cs) (samplesOf s ds) → k ≤ i + s .params .delay → k < symbolCount s cs
+    → k < symbolCount s ds → SameTiming (placesWritten s cs) (placesWritten s ds) k
+
+-- And one of lists without commits, in which all calls are blocks under the sheet and the banks of the start: they are alike.
 abbrev pub Plain : Sheet → List Call → Type 0
 Plain s [] = Unit {0}
 Plain s (block t values out ∷ cs) = (t ≡ s) × Plain s cs
 Plain s (commit t ticket ∷ cs) = ⊥
 
 abbrev pub WithoutCommits : Type 0
-WithoutCommits = (s : Sheet) (cs : List Call) → Plain s cs → KeepsToItsSheets s cs × (commitsOf s cs ≡ [])
+WithoutCommits = (s : Sheet) (cs ds : List Call) → Plain s cs → Plain s ds → Alike s cs ds
 
 -- ---- what can be refused in a list
 
--- Behind a list, under a sheet and banks that judging accepts: where the state that the list hands back holds this sheet, only 10, 11 and 12 can refuse a block,
--- and nothing a reading; where it holds another one, both are refused by 9.
-pub record GoesOn (f : Frontend) (t : Sheet) : Type 0 where
+-- Behind a list, under a sheet and banks that judging accepts: where the state that the list hands back holds this sheet, only 10, 11 and 12 can refuse a
+-- block, and nothing a reading; where it holds another one, both are refused by 9.
+pub record Continues (f : Frontend) (t : Sheet) : Type 0 where
   pub blocks : t .params ≡ f .params → (values out : List ℤ)
       → let n : ℕ = blockOf t f values out .refused .number in (n ≡ 0) ⊎ ((10 ≤ n) × (n ≤ 12))
   pub reads : t .params ≡ f .params → readOf t f .refused .number ≡ 0
@@ -144,9 +153,9 @@ pub record GoesOn (f : Frontend) (t : Sheet) : Type 0 where
   pub other-reads : (t .params ≡ f .params → ⊥) → readOf t f .refused .number ≡ 9
 
 abbrev pub StatesGoOn : Type 0
-StatesGoOn = (s : Sheet) → startOf s .refused ≡ nothing → (cs : List Call) (t : Sheet) → judged t ≡ nothing → GoesOn (endState s cs) t
+StatesGoOn = (s : Sheet) → startOf s .refused ≡ nothing → (cs : List Call) (t : Sheet) → judged t ≡ nothing → Continues (endState s cs) t
 
--- A ticket holds until the next symbol, on any state: behind an accepted ask and any calls that make no symbol, the commit of the same sheet and banks is accepted.
+-- A ticket holds until the next symbol, on any state: behind an accepted ask and calls that make no symbol, committing the same sheet and banks is accepted.
 abbrev pub TicketsHold : Type 0
 TicketsHold =
     (f : Frontend) (t : Sheet) (cs : List Call) → askOf t f .refused .number ≡ 0 → counted f cs ≡ 0

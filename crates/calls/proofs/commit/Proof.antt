@@ -1,11 +1,10 @@
 -- `calls::commit` meets its contract: it refuses in the definition's order, and puts the sheet's numbers into the state's places where nothing is refused.
 -- The places in front of them are those of the state that was read, and stay.
-use Prim.Native.Nat.{ℕ, _-_, _≤_}
+use Prim.Native.Nat.{ℕ, _-_}
 use mathlib.Core.Path.{_≡_, refl, sym, ap, _∙_}
-use mathlib.Core.Bool.{Bool, true, false}
+use mathlib.Core.Bool.{true}
 use mathlib.Core.List.{List, [], _++_, append-nil}
 use native.Mathlib.Omega.{arith}
-use lib.Dec.{eqb}
 use lib.ListN.{length, take, drop, length-take, length-drop, drop-of-length-le}
 use lib.Seq.{take-at}
 use lib.IntN.{ℤ}
@@ -19,7 +18,7 @@ use Rattle.params.specs.Refusal.{firstOf}
 use Rattle.params.specs.Judge.{Sheet, sheetOf, judged}
 use Rattle.state.specs.declared.Frontend.{Frontend}
 use Rattle.retune.specs.Retune.{Commit, retuned, commitFaults, commitOf, committed}
-use Rattle.places.specs.Sheet.{sheetNumber, paramsAt, sheetNumbers, sheetWritten}
+use Rattle.places.specs.Sheet.{sheetNumber, sheetNumbers, sheetWritten}
 use Rattle.places.specs.States.{Slices, slices, firstNumbers, stateFits, stateOf, numbersOf}
 use Rattle.places.proofs.Read.{Unread, Sheeted, sheet-refused, sheet-read}
 use Rattle.places.proofs.Readable.{readable-state}
@@ -126,7 +125,8 @@ numbered c = c .number2 .ensures ∙ ap (λ (a : Commit). a .refused .number) (t
 
 -- what comes behind the state's own number
 behind : (c : tie.Else1) {n : ℕ} → n ≡ answer c .refused .number
-    → n ≡ firstNumber (sheetNumber (start (tested c) .args .sheet .now)) (firstNumber (stateNumber (sheet (tested c)) (given (tested c))) (answer c .refused .number))
+    → n ≡ firstNumber (sheetNumber (start (tested c) .args .sheet .now))
+    (firstNumber (stateNumber (sheet (tested c)) (given (tested c))) (answer c .refused .number))
 behind c e = then-is _ _ (readable (arm (tested c)) .none) (then-is _ _ (state-passes (sheet (tested c)) (given (tested c)) (fitting c)) e)
 
 same-length-2 : tie.Need-same-length-2

@@ -45,7 +45,9 @@ second c = record {
 returns : tie.Need-returns
 unfolding sameFields
 returns c =
-    let t = c .before .before .before .before .before .before .before .before .before .before .before .before .before .before .before .before .before .before .before .before .before .before .before .before .before .before .before .before .before .before .before .before .before .before .before .before .before .before in
+    let late = c .before .before .before .before .before .before .before .before .before .before .before .before .before in
+    let early = late .before .before .before .before .before .before .before .before .before .before .before .before .before in
+    let t = early .before .before .before .before .before .before .before .before .before .before .before .before in
     let q = second t in
     let p = first (t .before .before) in
     rw (same-bits _ _ (p .nco) (q .nco), same-bits _ _ (p .kp) (q .kp), same-bits _ _ (p .ki) (q .ki), same-bits _ _ (p .most) (q .most))

@@ -4,7 +4,7 @@ use mathlib.Core.Path.{_≡_, sym, _∙_}
 use mathlib.Core.List.{[]}
 use borrow.Author.Needs.{needs}
 use Rattle.params.specs.declared.Verdict.{Verdict}
-use Rattle.params.specs.declared.Verdict.the-variants.{Accepted, Refused}
+use Rattle.params.specs.declared.Verdict.the-variants.{Refused}
 use Rattle.params.specs.declared.ParamError.{ParamError}
 use Rattle.params.specs.Refusal.{Refusal, errorRefusal, verdictRefusal, firstOf}
 use Rattle.params.specs.Judge.{Sheet, sheetOf, faults, judged}
