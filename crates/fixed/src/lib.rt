@@ -101,7 +101,6 @@ fn run(
     let mut q = [0u64; 64];
     let mut e = [0i32; RING_PLACES];
     let mut err = [0i32; RING_PLACES];
-    let held = f.params;
     let line = f.line;
     let pending = f.pending;
     block::unpack_line(line, taps, &mut i, &mut q);
@@ -123,8 +122,9 @@ fn run(
     );
     let r = s.registers;
     let w = s.position;
+    // The sheet given is the held one, or 9 had refused it: so nothing of the old state has to be kept while the samples run.
     let state = Frontend {
-        params: held,
+        params: p,
         registers: r,
         line: block::pack_line(line, taps, &i, &q),
         head: w.head,

@@ -45,7 +45,7 @@ slice-aggregate-unpack-line-2 : tie.Need-slice-aggregate-unpack-line-2
 slice-aggregate-unpack-line-2 c = search needs
 
 unpack-line-requires : tie.Need-unpack-line-requires
-unpack-line-requires c κs = (ok (c .before .before .before .before .before .before .before) .sheet .lengths .good .most, (refl, refl))
+unpack-line-requires c κs = (ok (c .before .before .before .before .before .before) .sheet .lengths .good .most, (refl, refl))
 
 slice-aggregate-unpack-pending : tie.Need-slice-aggregate-unpack-pending
 slice-aggregate-unpack-pending c = search needs
@@ -75,7 +75,7 @@ module _ (c : tie.After-pairs-taken) where
   roomy = omega (arith, c .pairs-taken .ensures)
 
 abbrev chosen : tie.After-registers → tie.After-pairs-taken
-chosen c = c .before .before .before .before .before .before .before .before .before .before .before .before .before .before .before
+chosen c = c .before .before .before .before .before .before .before .before .before .before .before .before .before .before
 
 mul-run : tie.Need-mul-run
 mul-run c = let t = chosen c in record { fits = omega (arith, ok (t .before) .sizes .few, t .pairs-taken .ensures) }
@@ -226,7 +226,7 @@ returns c =
     let head = going (a .p) (a .f) (ok s .good) .head in
     answer (sheet s) (a .f) (a .values .now) (a .out .now) {o = r .run .last .1 .1 .1 .1 .1 .0}
     (choice (r .before) .pairs-taken .ensures)
-    (put-together (ends r) (sym (run-params (sheet s) (a .f) (pairs (r .before))))
+    (put-together (ends r) (ok s .holds ∙ sym (run-params (sheet s) (a .f) (pairs (r .before))))
     (line-packed (a .f .line) (ends r .line) (λ n h. after-rest (sheet s) (a .f) (pairs (r .before)) n head h) (l .pack-line .ensures))
     (queue-packed (ends r .queue) (c .pack-pending .ensures)))
     (rw (cut (r .before)) at (r .run .ensures .counted (a .f) begin)) (rw (cut (r .before)) at (r .run .ensures .clipped (a .f) begin))
