@@ -1,4 +1,6 @@
 // The front end for C and Rust: crates/calls, and float samples of crates/input, under the names and with the arguments that include/huntelm.h declares.
+#![tactic(auto)]
+
 ghost use Rattle.std.specs.Prelude.{◌≡◌};
 ghost use Rattle.places.specs.States.{slices};
 ghost use Rattle.calls.specs.Calls.{judge_number, start_answer, block_answer, read_answer, ask_answer, commit_answer, offset_answer, design_answer};

@@ -1,6 +1,8 @@
 // The arithmetic of the path: rounding, quotients, clamps, shifts, reductions and narrower types of signed integers.
 //
 // Every function here is total. It answers for each input what its definition over ℤ says (specs/Arith.antt), and no caller owes it anything.
+#![tactic(auto)]
+
 ghost use Rattle.std.specs.Prelude.{◌≡◌, not, ◌^◌, min, ◌*ℤ◌};
 ghost use Rattle.std.specs.Int.Signed.{shr_z};
 ghost use Rattle.arith.specs.Arith.{round_shift, clamp_z, sat16_changes, saturated_to, mod_z, wrap_i32, nearest_away, or_zero, narrow_i16, narrow_i32};

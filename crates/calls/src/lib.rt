@@ -3,6 +3,8 @@
 // No call asks anything of its caller: whatever is lent, it answers, with a refusal's number where something is wrong, and then it has touched no place.
 // 18 and 19 refuse a sheet or a design that cannot be read, before 14 to 17 and the judge's 1 to 8 and 29; slices that are no state are refused by 9, after
 // the judge's. A state is lent as three slices: its places, its line and its errors (crates/places).
+#![tactic(auto)]
+
 ghost use Rattle.std.specs.Prelude.{◌≡◌};
 ghost use Rattle.kinds.specs.Answer.{first_number};
 ghost use Rattle.params.specs.Judge.{sheet_of, judged};

@@ -1,4 +1,6 @@
 // Designs: from rates to the registers of a sheet, and to a whole sheet that is judged.
+#![tactic(auto)]
+
 ghost use Rattle.std.specs.Prelude.{◌≡◌, ◌&&◌, leb};
 ghost use Rattle.design.specs.Refusal.{design_refusal, sheet_refusal, design_answer, sheet_answer};
 ghost use Rattle.design.specs.Registers.{sps_of, registers_of};

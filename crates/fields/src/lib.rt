@@ -1,4 +1,6 @@
 // The 18 fields of a sheet without its banks, as a state holds them: what stands there where no sheet was accepted, and whether two sheets are the same.
+#![tactic(auto)]
+
 ghost use Rattle.std.specs.Prelude.{◌≡◌};
 ghost use Rattle.fields.specs.Fields.{no_fields, same_fields};
 

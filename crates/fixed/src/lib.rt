@@ -25,6 +25,8 @@
 //     Then, with a symbol or without, t = t - 2^24, and one more sample is counted.
 //
 // A block (block.rt) takes samples one after the other and writes 20 places a symbol.
+#![tactic(auto)]
+
 mod block;
 mod filter;
 mod line;

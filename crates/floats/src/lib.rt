@@ -2,6 +2,8 @@
 //
 // The language casts a float only where nothing is lost. These casts lose what Rust's lose: the fraction, what lies past an end of the type, and a NaN, which
 // becomes 0. Every function here is total.
+#![tactic(auto)]
+
 ghost use Rattle.std.specs.Prelude.{◌≡◌};
 ghost use Rattle.std.specs.Float.Ieee.{to_unsigned, to_signed};
 ghost use Rattle.floats.specs.Whole.{round_away};

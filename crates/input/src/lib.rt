@@ -1,4 +1,6 @@
 // Float samples, as some recordings have them, made into what the front end takes: 12 bits for each component, in phase and in quadrature.
+#![tactic(auto)]
+
 ghost use Rattle.std.specs.Prelude.{◌≡◌};
 ghost use Rattle.input.specs.Input.{component_of, sample_answer};
 

@@ -1,6 +1,8 @@
 // The types of numbers that fields have, by one numbering for the whole repository: what each of them takes, and whether places hold numbers of theirs.
 //
 // A place is a signed number of 64 bits, in which sheets, states and answers cross to C and in which the fields of a line are read.
+#![tactic(auto)]
+
 ghost use Rattle.std.specs.Prelude.{◌≡◌, ◌&&◌};
 ghost use Rattle.kinds.specs.Kinds.{least_of, most_of, is_kind, are_kinds, places_number};
 

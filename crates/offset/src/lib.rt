@@ -1,4 +1,6 @@
 // The offset of a period from the nominal one: how fast the sender's clock is beside the receiver's (RULES 6.1).
+#![tactic(auto)]
+
 ghost use Rattle.std.specs.Prelude.{◌≡◌};
 ghost use Rattle.params.specs.Judge.{sheet_of};
 ghost use Rattle.offset.specs.Offset.{offset_refusal, offset_parts, parts_of, offset_of};

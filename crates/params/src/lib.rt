@@ -1,4 +1,6 @@
 // The sheet: the parameters of the front end, how they are judged, and why they are refused.
+#![tactic(auto)]
+
 mod banks;
 mod judge;
 mod refusal;

@@ -2,6 +2,8 @@
 //
 // Nothing is asked of a caller: places that are those of no sheet, state or design are refused by a number, and then nothing is written.
 // A sheet is 18 places (sheet.rt), a state 28 with its line and its errors beside them (states.rt), a design five rates and eight places (rates.rt).
+#![tactic(auto)]
+
 mod numbers;
 mod rates;
 mod sheet;

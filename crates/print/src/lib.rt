@@ -1,4 +1,6 @@
 // Numbers and lines, printed into a lent buffer from a place on. Each function answers the place behind what it wrote.
+#![tactic(auto)]
+
 ghost use Rattle.std.specs.Prelude.{◌≡◌, cond, ltb, ◌≤◌, ◌<◌, ◌+◌, ◌*◌, length};
 ghost use Rattle.print.specs.Number.{decimal, last_digits, magnitude_of, text_of};
 ghost use Rattle.print.specs.Print.{Put, roomed, line_text, end_of, refused_of};

@@ -1,5 +1,7 @@
 // A recording as the symbol program reads it: what its next line is, and where the numbers of a line go. All of it is on values; the reading itself, and
 // what is made of the numbers, is the program's (crates/symbols).
+#![tactic(auto)]
+
 mod lines;
 mod places;
 

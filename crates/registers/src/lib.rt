@@ -1,4 +1,6 @@
 // The six loop registers: what they are, how the errors of a symbol move them, and what a symbol does to them as one group.
+#![tactic(auto)]
+
 mod correct;
 mod lent;
 mod step;

@@ -2,6 +2,8 @@
 // row for each part of a call; the program makes the call and counts where it answers something else.
 //
 // A row's numbers stand for a sheet (sheet.rt), an answer (answer.rt) or a state (states.rt), and calls.rt does what the row says.
+#![tactic(auto)]
+
 mod answer;
 mod calls;
 mod sheet;

@@ -2,6 +2,8 @@
 // answer, and rows of the banks and gains that a sheet takes; the program makes the call and counts where it answers something else.
 //
 // answers.rt has what the calls answer in the numbers of a row, and calls.rt does what the row says.
+#![tactic(auto)]
+
 mod answers;
 mod calls;
 

@@ -1,5 +1,7 @@
 // Replays the oracle's answers for the leaves of the path: its arithmetic and the cosine wheel. Standard input has a row for each call,
 // `function,a,b,c,answer`; the program makes the same call and counts where it answers something else.
+#![tactic(auto)]
+
 use libc::STDOUT_FILENO;
 use rows::{Cursor, Tally};
 

@@ -2,6 +2,8 @@
 //
 // Both look for the same faults in the same order (check.rt). Asking changes nothing and answers a ticket, the number of the state's symbols; a commit takes
 // it, and changes the held sheet and nothing else.
+#![tactic(auto)]
+
 mod check;
 mod verdict;
 

@@ -1,4 +1,6 @@
 // Rows of decimal numbers separated by commas, as the replay programs read the oracle's answers; the numbers of a row; and how many answers agreed.
+#![tactic(auto)]
+
 ghost use Rattle.std.specs.Prelude.{◌≡◌, ◌%◌, ◌^◌, length, drop, pos, slice_index_or, slice_set};
 ghost use Rattle.arith.specs.Arith.{mod_z};
 ghost use Rattle.rows.specs.Rows.{no_number, digit_added, signed_value, start, moved, ends_number, read, row_read, Advanced};

@@ -1,4 +1,6 @@
 // The state: all that is kept between samples, how it begins, what a call refuses of it, and what can be read of it.
+#![tactic(auto)]
+
 mod check;
 mod read;
 mod start;

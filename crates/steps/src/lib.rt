@@ -1,4 +1,6 @@
 // The float steps from a design to its registers, one function for each register. Every operation is rounded, so their order is part of the answer.
+#![tactic(auto)]
+
 ghost use Rattle.std.specs.Prelude.{◌≡◌};
 ghost use Rattle.steps.specs.Steps.{period_nominal, at_least_min, period_min, period_max, integrator_max, nco_step, agc_target};
 

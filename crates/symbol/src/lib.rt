@@ -1,4 +1,6 @@
 // A symbol: what is made of the filters' sums, and the 20 places that it fills in an output.
+#![tactic(auto)]
+
 mod make;
 mod places;
 

@@ -2,6 +2,8 @@
 //
 // The input goes through one buffer, line by line (input.rt). The first 193 lines are the sheet with its banks (sheet.rt); then the pairs go through the front
 // end in blocks (run.rt), and their symbols through a second buffer to the output (output.rt). The memory is the same however long the input is.
+#![tactic(auto)]
+
 mod input;
 mod output;
 mod run;

@@ -1,6 +1,8 @@
 // The cosine wheel: a turn in 1,024 steps, read by the mixer.
 //
 // The sine is the cosine three quarters of a turn on, at k + 768.
+#![tactic(auto)]
+
 ghost use Rattle.std.specs.Prelude.{◌≡◌};
 ghost use Rattle.tables.specs.Wheel.{wheel_table};
 

@@ -1,4 +1,6 @@
 // The text that the symbol program reads, on lent bytes: where a line ends, and the numbers that it holds.
+#![tactic(auto)]
+
 mod fields;
 mod lines;
 
