@@ -79,7 +79,7 @@ pub fn least(a: usize, b: usize) -> usize
 }
 
 // A number within 16 bits, and whether it is another than the one that was to be held.
-#[derive(Drop)]
+#[derive(Clone, Copy)]
 pub struct Saturated {
     pub value: i16,
     pub changed: bool,

@@ -9,7 +9,7 @@ ghost use Rattle.design.specs.Design.{good_sps, good_trim, design_of, params_of,
 use params::{ParamError, Params, Verdict};
 
 // What a receiver is built for (RULES 6.3).
-#[derive(Drop)]
+#[derive(Clone, Copy)]
 pub struct Design {
     // Samples and symbols a second.
     pub sample_rate: f64,
@@ -27,7 +27,7 @@ pub struct Design {
 }
 
 // The fields of a sheet that a design determines. The delay is 24 symbols in every design.
-#[derive(Drop)]
+#[derive(Clone, Copy)]
 pub struct DesignRegisters {
     pub taps: u32,
     pub nco_step: i32,
@@ -45,7 +45,7 @@ pub struct DesignRegisters {
 }
 
 // The fields of a sheet that a design leaves open: the loop's two gains with their shifts, and the shift of the output.
-#[derive(Drop)]
+#[derive(Clone, Copy)]
 pub struct Gains {
     pub kp: i16,
     pub kp_shift: u8,
@@ -55,7 +55,7 @@ pub struct Gains {
 }
 
 // Why a design is refused (RULES 6.3).
-#[derive(Drop)]
+#[derive(Clone, Copy)]
 pub enum DesignError {
     SamplesPerSymbol { sps: f64 },
     Taps,
@@ -64,21 +64,21 @@ pub enum DesignError {
 }
 
 // What a design answers.
-#[derive(Drop)]
+#[derive(Clone, Copy)]
 pub enum DesignVerdict {
     Accepted(DesignRegisters),
     Refused(DesignError),
 }
 
 // Why a sheet that is made from a design is refused: by its design, or by the judge.
-#[derive(Drop)]
+#[derive(Clone, Copy)]
 pub enum SheetError {
     Design(DesignError),
     Params(ParamError),
 }
 
 // What a design with banks and gains answers.
-#[derive(Drop)]
+#[derive(Clone, Copy)]
 pub enum SheetVerdict {
     Accepted(Params),
     Refused(SheetError),

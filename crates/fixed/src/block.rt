@@ -104,7 +104,7 @@ fn clips_of(made: bool, y: Symbol) -> usize
 }
 
 // What a block leaves: registers and positions after its last sample, how many symbols it wrote, and their clips.
-#[derive(Drop)]
+#[derive(Clone, Copy)]
 pub(crate) struct Ran {
     pub(crate) registers: Registers,
     pub(crate) position: Position,

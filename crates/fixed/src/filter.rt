@@ -17,7 +17,7 @@ use symbol::Sums;
 // ---- rows of h and g
 
 // The sums of a row of h and one of g, as far as they are taken.
-#[derive(Drop)]
+#[derive(Clone, Copy)]
 struct Detected {
     h: Sums,
     g: Sums,
@@ -58,7 +58,7 @@ fn detector_run(before: Detected, h: &[i32], g: &[i32], i: &[u64], q: &[u64]) ->
 // ---- a row of k
 
 // The sums of its raised coefficients times the line's numbers, of the coefficients themselves, and of the numbers, as far as they are taken.
-#[derive(Drop)]
+#[derive(Clone, Copy)]
 struct Raised {
     i: u64,
     q: u64,
@@ -112,7 +112,7 @@ fn unraised(s: Raised) -> Sums
 // ---- the runs
 
 // What the runs so far have summed.
-#[derive(Drop)]
+#[derive(Clone, Copy)]
 struct Summed {
     detected: Detected,
     output: Raised,

@@ -43,7 +43,7 @@ use params::Params;
 use state::{Frontend, FrontendVerdict, RING_PLACES};
 
 // What a block answers: the new state, how many pairs it took, how many symbols it wrote and their clips in all, or the state given and zeros.
-#[derive(Drop)]
+#[derive(Clone, Copy)]
 pub struct Processed {
     pub verdict: FrontendVerdict,
     pub state: Frontend,

@@ -14,7 +14,7 @@ use state::Position;
 use symbol::{Output, Sums, Symbol};
 
 // What a sample leaves: the registers and positions after it, and a symbol with a flag that says whether one was made.
-#[derive(Drop)]
+#[derive(Clone, Copy)]
 pub(crate) struct Pushed {
     pub(crate) registers: Registers,
     pub(crate) position: Position,

@@ -9,7 +9,7 @@ use params::{ParamError, Params, Verdict};
 
 // What the offset of a period answers beside its value: its sheet may be refused, or the period be one that the loop never sets
 // (RULES 6.1).
-#[derive(Drop)]
+#[derive(Clone, Copy)]
 pub enum OffsetVerdict {
     Accepted,
     Params(ParamError),
@@ -17,7 +17,7 @@ pub enum OffsetVerdict {
 }
 
 // A period's offset from the nominal one, in parts per thousand million; 0 where it is refused.
-#[derive(Drop)]
+#[derive(Clone, Copy)]
 pub struct Offset {
     pub verdict: OffsetVerdict,
     pub parts: i64,

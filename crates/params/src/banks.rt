@@ -32,7 +32,7 @@ fn magnitude(c: i32) -> u32
 
 // The sum of magnitudes, as far as it is taken, in 32 bits: of four magnitudes the machine then adds each to its own sum at once. It is theirs as long as
 // all of them were small.
-#[derive(Drop)]
+#[derive(Clone, Copy)]
 struct Narrow {
     sum: u32,
     small: bool,
@@ -137,7 +137,7 @@ fn stay_centred(so_far: bool, of_detector: bool, row: &[i32], sum: u64) -> bool
 }
 
 // What was found in the rows of a bank: a row that is refused, or whether all are zero outside the detector's places.
-#[derive(Drop)]
+#[derive(Clone, Copy)]
 struct Rows {
     verdict: Verdict,
     centred: bool,

@@ -9,7 +9,7 @@ pub use banks::detector_of;
 pub use judge::{is_good_taps, is_within};
 
 // The run-time parameters (RULES 1.1). The banks h, g and k are lent beside it, each 64 rows of `taps` numbers, row by row.
-#[derive(Drop)]
+#[derive(Clone, Copy)]
 pub struct Params {
     // Taps of a row: even, 4 to 64.
     pub taps: u32,
@@ -42,7 +42,7 @@ pub struct Params {
 }
 
 // Why a sheet is refused (RULES 1.4). A bank is 0 for h, 1 for g and 2 for k; a phase is a row of it.
-#[derive(Drop)]
+#[derive(Clone, Copy)]
 pub enum ParamError {
     Taps,
     BankLength,
@@ -56,14 +56,14 @@ pub enum ParamError {
 }
 
 // What judging a sheet answers.
-#[derive(Drop)]
+#[derive(Clone, Copy)]
 pub enum Verdict {
     Accepted,
     Refused(ParamError),
 }
 
 // Where the timing detector's places of a row begin and end: the eight in the middle, or all of a row that has fewer.
-#[derive(Drop)]
+#[derive(Clone, Copy)]
 pub struct Detector {
     pub low: usize,
     pub high: usize,

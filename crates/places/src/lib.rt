@@ -16,14 +16,14 @@ pub use sheet::{read_sheet, sheet_kinds, write_sheet};
 pub use states::{is_state, read_state, write_state};
 
 // The sheet of some places, or 18 or 19.
-#[derive(Drop)]
+#[derive(Clone, Copy)]
 pub enum ReadSheet {
     Sheet(Params),
     Refused(u32),
 }
 
 // The design of some rates and places with the gains that it leaves open, or 18 or 19.
-#[derive(Drop)]
+#[derive(Clone, Copy)]
 pub enum ReadDesign {
     Design { design: Design, gains: Gains },
     Refused(u32),

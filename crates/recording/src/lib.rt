@@ -9,7 +9,7 @@ pub use lines::next_line;
 pub use places::{bank_length, keep_pair, keep_row, row_length};
 
 // What comes next in the input.
-#[derive(Drop)]
+#[derive(Clone, Copy)]
 pub enum Next {
     // A line of so many bytes. Its line feed stands behind them.
     Line(usize),

@@ -9,14 +9,14 @@ pub use lent::{change, changed};
 pub use step::is_due;
 
 // The errors that one symbol leaves: of the timing, and of the gain. They wait until the loop's delay is over.
-#[derive(Drop)]
+#[derive(Clone, Copy)]
 pub struct Pending {
     pub e: i32,
     pub err: i32,
 }
 
 // The registers that change as a group with each sample and symbol.
-#[derive(Drop)]
+#[derive(Clone, Copy)]
 pub struct Registers {
     // Phase word of the mixer, in 2^32ths of a turn.
     pub nco: u32,
@@ -33,7 +33,7 @@ pub struct Registers {
 }
 
 // What a symbol makes of the registers, and whether it was made; where not, they are as given.
-#[derive(Drop)]
+#[derive(Clone, Copy)]
 pub struct AfterSymbol {
     pub registers: Registers,
     pub made: bool,

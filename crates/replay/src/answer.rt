@@ -6,7 +6,7 @@ ghost use Rattle.replay.specs.Answer.{carries_none, carries_one, carries_three, 
 use params::ParamError;
 
 // A refusal, as so many numbers of the four. What it does not carry is 0.
-#[derive(Drop)]
+#[derive(Clone, Copy)]
 pub struct Answer {
     pub long: usize,
     pub number: u32,

@@ -6,7 +6,7 @@ ghost use Rattle.replay.specs.Banks.{no_banks, kept_of, room_with};
 const THIRD: usize = 8192;
 
 // How much of its third each bank takes.
-#[derive(Drop)]
+#[derive(Clone, Copy)]
 pub struct Banks {
     pub h: usize,
     pub g: usize,

@@ -7,7 +7,7 @@ use rows::Tally;
 use state::Frontend;
 
 // What the rows so far leave: how many answers were compared, and what is in force.
-#[derive(Drop)]
+#[derive(Clone, Copy)]
 pub(crate) struct Replay {
     pub(crate) tally: Tally,
     sheet: Sheet,

@@ -2,7 +2,7 @@
 use params::Params;
 use replay::banks::Banks;
 
-#[derive(Drop)]
+#[derive(Clone, Copy)]
 pub(crate) struct Sheet {
     pub(crate) params: Params,
     pub(crate) banks: Banks,

@@ -5,7 +5,7 @@ use replay::banks::Banks;
 use rows::Tally;
 
 // What the rows so far leave: how many answers were compared, and what is in force.
-#[derive(Drop)]
+#[derive(Clone, Copy)]
 pub(crate) struct Replay {
     pub(crate) tally: Tally,
     banks: Banks,

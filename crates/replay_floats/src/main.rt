@@ -11,7 +11,7 @@ use calls::Replay;
 use libc::STDOUT_FILENO;
 use rows::{Cursor, Tally};
 
-#[derive(Drop)]
+#[derive(Clone, Copy)]
 struct Progress {
     cursor: Cursor,
     replay: Replay,

@@ -5,7 +5,7 @@
 use libc::STDOUT_FILENO;
 use rows::{Cursor, Tally};
 
-#[derive(Drop)]
+#[derive(Clone, Copy)]
 struct Progress {
     cursor: Cursor,
     tally: Tally,

@@ -15,7 +15,7 @@ use params::{ParamError, Params};
 use state::Frontend;
 
 // What asking and committing answer beside their result.
-#[derive(Drop)]
+#[derive(Clone, Copy)]
 pub enum RetuneVerdict {
     Accepted,
     Params(ParamError),
@@ -25,14 +25,14 @@ pub enum RetuneVerdict {
 }
 
 // What asking answers: the ticket, 0 where it is refused.
-#[derive(Drop)]
+#[derive(Clone, Copy)]
 pub struct Asked {
     pub verdict: RetuneVerdict,
     pub ticket: u64,
 }
 
 // What committing answers: the state with the new sheet, or the state given where it is refused.
-#[derive(Drop)]
+#[derive(Clone, Copy)]
 pub struct Committed {
     pub verdict: RetuneVerdict,
     pub state: Frontend,

@@ -7,14 +7,14 @@ ghost use Rattle.rows.specs.Rows.{no_number, digit_added, signed_value, start, m
 ghost use Rattle.rows.specs.Rows.{none_counted, one_counted, signed_bits};
 
 // A number while its digits come in.
-#[derive(Drop)]
+#[derive(Clone, Copy)]
 pub struct Number {
     pub size: u64,
     pub minus: bool,
 }
 
 // Where the reading of a row stands. The bytes come in pieces, and a row may go on in the next piece.
-#[derive(Drop)]
+#[derive(Clone, Copy)]
 pub struct Cursor {
     // The next byte of the piece.
     pub at: usize,
@@ -206,7 +206,7 @@ pub fn i64_of(n: u64) -> i64
 }
 
 // How many answers were compared, how many differed, and the row of the first that did.
-#[derive(Drop)]
+#[derive(Clone, Copy)]
 pub struct Tally {
     pub rows: u64,
     pub wrong: u64,

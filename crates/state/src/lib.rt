@@ -16,14 +16,14 @@ use registers::{Pending, Registers};
 pub const RING_PLACES: usize = 24;
 
 // A sample, as it is mixed and kept in the line: in phase and in quadrature.
-#[derive(Drop)]
+#[derive(Clone, Copy)]
 pub struct Pair {
     pub i: i32,
     pub q: i32,
 }
 
 // All that is kept between samples (RULES 3.1).
-#[derive(Drop)]
+#[derive(Clone, Copy)]
 pub struct Frontend {
     // The fields of the held sheet: that of the start, or the one that was committed last.
     pub params: Params,
@@ -40,7 +40,7 @@ pub struct Frontend {
 }
 
 // Where a state stands: in the line, in the queue of errors and in the recording.
-#[derive(Drop)]
+#[derive(Clone, Copy)]
 pub struct Position {
     pub head: usize,
     pub oldest: usize,
@@ -49,7 +49,7 @@ pub struct Position {
 }
 
 // What a call on a state answers beside its result (RULES 1.4, 4.1).
-#[derive(Drop)]
+#[derive(Clone, Copy)]
 pub enum FrontendVerdict {
     Accepted,
     Params(ParamError),
@@ -76,14 +76,14 @@ impl FrontendVerdict {
 }
 
 // What starting answers: a fresh state, or one of zeros where the sheet is refused.
-#[derive(Drop)]
+#[derive(Clone, Copy)]
 pub struct Started {
     pub verdict: Verdict,
     pub state: Frontend,
 }
 
 // What reading a state answers; zeros where it is refused.
-#[derive(Drop)]
+#[derive(Clone, Copy)]
 pub struct Reading {
     pub verdict: FrontendVerdict,
     pub period: u32,

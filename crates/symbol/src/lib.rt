@@ -5,21 +5,21 @@ mod make;
 mod places;
 
 // The sums of one bank's row over the line; the filter gives three of these, for h, g and k.
-#[derive(Drop)]
+#[derive(Clone, Copy)]
 pub struct Sums {
     pub i: i64,
     pub q: i64,
 }
 
 // What becomes of a sum: the output of a filter, that times the gain, and the symbol's own components, each within 16 bits.
-#[derive(Drop)]
+#[derive(Clone, Copy)]
 pub struct Output {
     pub i: i16,
     pub q: i16,
 }
 
 // A symbol, with what led to it.
-#[derive(Drop)]
+#[derive(Clone, Copy)]
 pub struct Symbol {
     // The sample at which it was made, counted from 0, and the sixty-fourth of it.
     pub sample: u64,

@@ -6,7 +6,7 @@ use crate::{Output, Sums, Symbol};
 use params::Params;
 
 // An output, and how many of its two components were clipped.
-#[derive(Drop)]
+#[derive(Clone, Copy)]
 struct Fitted {
     output: Output,
     clips: u8,

@@ -3,7 +3,7 @@ use crate::stop::Stop;
 use recording::Next;
 
 // What the buffer holds and is not used yet, from `at` to before `end`, and whether the input has ended behind it.
-#[derive(Drop)]
+#[derive(Clone, Copy)]
 pub(crate) struct Input {
     at: usize,
     end: usize,
@@ -11,7 +11,7 @@ pub(crate) struct Input {
 }
 
 // The next line of the input.
-#[derive(Drop)]
+#[derive(Clone, Copy)]
 enum Found {
     // It stands in the buffer from one place to before another, and what is behind it follows.
     Line { from: usize, to: usize, rest: Input },
@@ -20,14 +20,14 @@ enum Found {
 }
 
 // What one more read answers.
-#[derive(Drop)]
+#[derive(Clone, Copy)]
 enum More {
     Bytes(Input),
     Failed,
 }
 
 // What is behind a line that was taken, or why it was not.
-#[derive(Drop)]
+#[derive(Clone, Copy)]
 pub(crate) struct Taken {
     pub(crate) rest: Input,
     pub(crate) stop: Stop,

@@ -2,7 +2,7 @@
 use crate::input;
 
 // How many bytes of the buffer wait to be written, and whether all before them were.
-#[derive(Drop)]
+#[derive(Clone, Copy)]
 pub(crate) struct Output {
     waiting: usize,
     good: bool,

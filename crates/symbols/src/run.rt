@@ -14,7 +14,7 @@ const PAIR: [u8; 2] = [I16, I16];
 const FIRST: u64 = 194;
 
 // How many sample values a block has, two a pair, what is behind them, and what stopped before it was full.
-#[derive(Drop)]
+#[derive(Clone, Copy)]
 struct Block {
     used: usize,
     rest: Input,
@@ -22,7 +22,7 @@ struct Block {
 }
 
 // What the pairs so far leave.
-#[derive(Drop)]
+#[derive(Clone, Copy)]
 struct Progress {
     state: Frontend,
     rest: Input,

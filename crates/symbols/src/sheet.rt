@@ -9,7 +9,7 @@ use places::ReadSheet;
 const ROWS: u64 = 64;
 
 // A sheet as far as it is read, what is behind it in the input, and what stopped the reading.
-#[derive(Drop)]
+#[derive(Clone, Copy)]
 pub(crate) struct Head {
     pub(crate) params: Params,
     pub(crate) rest: Input,

@@ -1,5 +1,5 @@
 // Why the program stops.
-#[derive(Drop)]
+#[derive(Clone, Copy)]
 pub(crate) enum Stop {
     // Nothing stops it so far.
     No,

@@ -10,7 +10,7 @@ pub use lines::{line_end, read_line};
 pub const LONGEST: usize = 1024;
 
 // Where the first line of some bytes ends.
-#[derive(Drop)]
+#[derive(Clone, Copy)]
 pub enum LineEnd {
     // With a line feed, after so many bytes.
     After(usize),
@@ -21,14 +21,14 @@ pub enum LineEnd {
 }
 
 // Digits: whether they are a number's, and the number, where it is more than 2^63 as 2^63 + 1. No type holds that.
-#[derive(Drop)]
+#[derive(Clone, Copy)]
 pub struct Digits {
     pub formed: bool,
     pub size: u64,
 }
 
 // A field: 0 and its value, or 1 where it is outside its type, 2 where it is of wrong form.
-#[derive(Drop)]
+#[derive(Clone, Copy)]
 pub struct Field {
     pub fault: u8,
     pub value: i64,
