@@ -5,27 +5,27 @@ use Rattle.arith.specs.Arith.{clamp_z}
 use Rattle.arith.proofs.clamp.Statement.{statement}
 use Rattle.arith.proofs.clamp.Tie as tie
 
-returns : tie.Need-returns
+returns : tie.Need-returns-then-v-lo
 unfolding clamp_z
 returns c =
     let f = c.before.ranges in
-    let low = simp (to_z-of_z f.v, to_z-of_z f.lo) at c.if1.true in
+    let low = simp (to_z-of_z f.v, to_z-of_z f.lo) at c.if-v-lo.true in
     simp (to_z-of_z f.lo, low)
 
-returns-2 : tie.Need-returns-2
+returns-2 : tie.Need-returns-then-hi-v
 unfolding clamp_z
 returns-2 c =
     let f = c.before.before.ranges in
-    let low = simp (to_z-of_z f.v, to_z-of_z f.lo) at c.before.if1.false in
-    let high = simp (to_z-of_z f.v, to_z-of_z f.hi) at c.if2.true in
+    let low = simp (to_z-of_z f.v, to_z-of_z f.lo) at c.before.if-v-lo.false in
+    let high = simp (to_z-of_z f.v, to_z-of_z f.hi) at c.if-hi-v.true in
     simp (to_z-of_z f.hi, low, high)
 
-returns-3 : tie.Need-returns-3
+returns-3 : tie.Need-returns
 unfolding clamp_z
 returns-3 c =
     let f = c.before.before.ranges in
-    let low = simp (to_z-of_z f.v, to_z-of_z f.lo) at c.before.if1.false in
-    let high = simp (to_z-of_z f.v, to_z-of_z f.hi) at c.if2.false in
+    let low = simp (to_z-of_z f.v, to_z-of_z f.lo) at c.before.if-v-lo.false in
+    let high = simp (to_z-of_z f.v, to_z-of_z f.hi) at c.if-hi-v.false in
     simp (to_z-of_z f.v, low, high)
 
 pub clamp_spec : {M : Type 1} → statement M

@@ -18,11 +18,11 @@ use Rattle.arith.proofs.Nearest.{no-larger, nearest-signed}
 use Rattle.arith.proofs.divide_nearest.Statement.{statement}
 use Rattle.arith.proofs.divide_nearest.Tie as tie
 
-returns : tie.Need-returns
+returns : tie.Need-returns-then-m-eq0
 unfolding nearest_away
-returns c = rw c.if1.true refl
+returns c = rw c.if-m-eq0.true refl
 
-cast-d : tie.Need-overflow-cast-d
+cast-d : tie.Need-overflow_cast-d
 cast-d c = search rules
 
 -- ---- by d, of a number with the sign s and the size a
@@ -69,7 +69,7 @@ sum_fits {s} {a} {d} z = rw (sum_is z) (smaller-fits s a (a / d + 2 * (a % d) / 
 
 -- ---- what the code reads
 
-sizes : (c : tie.Else1) → let a = c.before.args in Sizes (sign a.n) (nat_abs a.n) a.m (to_z w64 (of_z w64 a.n)) (to_z w64 a.m)
+sizes : (c : tie.Else-m-eq0) → let a = c.before.args in Sizes (sign a.n) (nat_abs a.n) a.m (to_z w64 (of_z w64 a.n)) (to_z w64 a.m)
 sizes c =
     let n = c.before.args.n in
     let m = c.before.args.m in
@@ -82,30 +82,30 @@ sizes c =
       small = omega (arith, mod-lt (nat_abs n) some, c.before.ranges.m.fits);
     }
 
-div-result : tie.Need-nonzero-div-result
+div-result : tie.Need-nonzero_div-result
 div-result c =
     let n = c.before.args.n in
     let m = c.before.args.m in
     rw (to_z-of_z c.before.ranges.n, (sizes c).m-is) ((sizes c).some, quot_fits n m c.before.ranges.n)
 
-rem-result : tie.Need-nonzero-rem-result
+rem-result : tie.Need-nonzero_rem-result
 rem-result c = div-result c
 
-mul-result : tie.Need-overflow-mul-result
+mul-result : tie.Need-overflow_mul-result
 mul-result c = twice-fits (sizes c)
 
-div-result-2 : tie.Need-nonzero-div-result-2
+div-result-2 : tie.Need-nonzero_div-result-2
 div-result-2 c = ((sizes c).some, more-fits (sizes c))
 
-add-result : tie.Need-overflow-add-result
+add-result : tie.Need-overflow_add-result
 add-result c = sum_fits (sizes c)
 
-returns-2 : tie.Need-returns-2
+returns-2 : tie.Need-returns
 returns-2 c =
     let n = c.before.args.n in
     let z = sizes c in
     to_z-of_z (sum_fits z) ∙ sum_is z ∙ nearest-signed n c.before.args.m z.some
 
-pub divide-nearest-spec : {M : Type 1} → statement M
-divide-nearest-spec =
+pub divide_nearest_spec : {M : Type 1} → statement M
+divide_nearest_spec =
     tie.close (tie.spec returns cast-d div-result rem-result mul-result div-result-2 add-result returns-2)

@@ -7,22 +7,22 @@ use Rattle.arith.proofs.Held.{changed-below, changed-above, changed-not}
 use Rattle.arith.proofs.fits_i16.Statement.{statement}
 use Rattle.arith.proofs.fits_i16.Tie as tie
 
-returns : tie.Need-returns
-returns c = let a = c.before in ap not (sym (changed-below a.args.v (simp (to_z-of_z a.ranges.v) at c.if1.true)))
+returns : tie.Need-returns-then-v-ltminus32768
+returns c = let a = c.before in ap not (sym (changed-below a.args.v (simp (to_z-of_z a.ranges.v) at c.if-v-ltminus32768.true)))
 
-returns-2 : tie.Need-returns-2
+returns-2 : tie.Need-returns-then-v-gt32767
 returns-2 c =
     let a = c.before.before in
-    let low = simp (to_z-of_z a.ranges.v) at c.before.if1.false in
-    let high = simp (to_z-of_z a.ranges.v) at c.if2.true in
+    let low = simp (to_z-of_z a.ranges.v) at c.before.if-v-ltminus32768.false in
+    let high = simp (to_z-of_z a.ranges.v) at c.if-v-gt32767.true in
     ap not (sym (changed-above a.args.v low high))
 
-returns-3 : tie.Need-returns-3
+returns-3 : tie.Need-returns
 returns-3 c =
     let a = c.before.before in
-    let low = simp (to_z-of_z a.ranges.v) at c.before.if1.false in
-    let high = simp (to_z-of_z a.ranges.v) at c.if2.false in
+    let low = simp (to_z-of_z a.ranges.v) at c.before.if-v-ltminus32768.false in
+    let high = simp (to_z-of_z a.ranges.v) at c.if-v-gt32767.false in
     ap not (sym (changed-not a.args.v low high))
 
-pub fits-i16-spec : {M : Type 1} → statement M
-fits-i16-spec = tie.close (tie.spec returns returns-2 returns-3)
+pub fits_i16_spec : {M : Type 1} → statement M
+fits_i16_spec = tie.close (tie.spec returns returns-2 returns-3)

@@ -24,7 +24,7 @@ module _ (s : tie.Start) where
   product = s.args.a *ℤ s.args.b
 
   product-abs : nat_abs product ≤ 2 ^ 46
-  product-abs = abs-mul-le s.args.a s.args.b (2 ^ 15) (2 ^ 31) (fit-abs s.fits.a) (fit-abs s.fits.b)
+  product-abs = abs-mul-le s.args.a s.args.b (2 ^ 15) (2 ^ 31) (fit-abs s.ranges.a) (fit-abs s.ranges.b)
 
   product-fits : SFits w64 product
   product-fits = sfit {z = product} (omega (arith, product-abs))
@@ -45,55 +45,55 @@ module _ (s : ℕ) (h : s ≤ 62) where
 
 -- ---- the needs
 
-returns : tie.Need-returns
+returns : tie.Need-returns-then-s-gt62
 returns c =
     let s = c.before in
-    sym (round-far {k = 62} (product s) s.args.s (omega (arith, mag-abs (product s), product-abs s)) c.if1.true)
+    sym (round-far {k = 62} (product s) s.args.s (omega (arith, mag-abs (product s), product-abs s)) c.if-s-gt62.true)
 
-cast-half : tie.Need-overflow-cast-half
+cast-half : tie.Need-overflow_cast-half
 cast-half c = search rules
 
-shl-half : tie.Need-overflow-shl-half
+shl-half : tie.Need-overflow_shl-half
 shl-half c = search rules
 
-cast-result : tie.Need-overflow-cast-result
+cast-result : tie.Need-overflow_cast-result
 cast-result c = widens w64 tt c.before.ranges.a
 
-cast-result-2 : tie.Need-overflow-cast-result-2
+cast-result-2 : tie.Need-overflow_cast-result-2
 cast-result-2 c = widens w64 tt c.before.ranges.b
 
-mul-result : tie.Need-overflow-mul-result
+mul-result : tie.Need-overflow_mul-result
 mul-result c = let s = c.before in simp (widened w64 tt s.ranges.a, widened w64 tt s.ranges.b) (product-fits s)
 
-module _ (c : tie.Else1) where
+module _ (c : tie.Else-s-gt62) where
   abbrev half : ℕ
   half = 2 ^ c.before.args.s / 2
 
   sum-abs : nat_abs (product c.before +ℤ pos half) < 2 ^ 63
-  sum-abs = omega (arith, abs-add (product c.before) (pos half), product-abs c.before, power-most c.before.args.s c.if1.false)
+  sum-abs = omega (arith, abs-add (product c.before) (pos half), product-abs c.before, power-most c.before.args.s c.if-s-gt62.false)
 
   sum_fits : SFits w64 (product c.before +ℤ pos half)
   sum_fits = sfit {z = product c.before +ℤ pos half} sum-abs
 
-add-result : tie.Need-overflow-add-result
+add-result : tie.Need-overflow_add-result
 add-result c =
     let s = c.before in
-    simp (widened w64 tt s.ranges.a, widened w64 tt s.ranges.b, to_z-of_z (product-fits s), half_is s.args.s c.if1.false) (sum_fits c)
+    simp (widened w64 tt s.ranges.a, widened w64 tt s.ranges.b, to_z-of_z (product-fits s), half_is s.args.s c.if-s-gt62.false) (sum_fits c)
 
-cast-result-3 : tie.Need-overflow-cast-result-3
+cast-result-3 : tie.Need-overflow_cast-result-3
 cast-result-3 c = search rules
 
-shr-result : tie.Need-overflow-shr-result
+shr-result : tie.Need-overflow_shr-result
 shr-result c = search rules
 
-returns-2 : tie.Need-returns-2
+returns-2 : tie.Need-returns
 returns-2 c =
     let s = c.before in
-    simp (widened w64 tt s.ranges.a, widened w64 tt s.ranges.b, to_z-of_z (product-fits s), half_is s.args.s c.if1.false)
+    simp (widened w64 tt s.ranges.a, widened w64 tt s.ranges.b, to_z-of_z (product-fits s), half_is s.args.s c.if-s-gt62.false)
     (simp (to_z-of_z (sum_fits c), to_z-of_z (shr-fits (2 ^ s.args.s) (sum_fits c))) (round-added (product s) s.args.s))
 
-pub round-product-spec : {M : Type 1} → statement M
-round-product-spec =
+pub round_product_spec : {M : Type 1} → statement M
+round_product_spec =
     tie.close
     (tie.spec
     returns

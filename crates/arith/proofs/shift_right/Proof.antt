@@ -10,21 +10,21 @@ use Rattle.arith.proofs.Bits.{shr-fits}
 use Rattle.arith.proofs.shift_right.Statement.{statement}
 use Rattle.arith.proofs.shift_right.Tie as tie
 
-returns : tie.Need-returns
+returns : tie.Need-returns-then-s-gt63
 returns c =
     let v = c.before.ranges.v in
     simp (to_z-of_z v, to_z-of_z (shr-fits (2 ^ 63) v)) (sym (shr-far c.before.args.v c.before.args.s v.sfits (omega arith)))
 
-cast-result : tie.Need-overflow-cast-result
+cast-result : tie.Need-overflow_cast-result
 cast-result c = search rules
 
-shr-result : tie.Need-overflow-shr-result
+shr-result : tie.Need-overflow_shr-result-2
 shr-result c = search rules
 
-returns-2 : tie.Need-returns-2
+returns-2 : tie.Need-returns
 returns-2 c =
     let v = c.before.ranges.v in
     simp (to_z-of_z v, to_z-of_z (shr-fits (2 ^ c.before.args.s) v))
 
-pub shift-right-spec : {M : Type 1} → statement M
-shift-right-spec = tie.close (tie.spec returns cast-result shr-result returns-2)
+pub shift_right_spec : {M : Type 1} → statement M
+shift_right_spec = tie.close (tie.spec returns cast-result shr-result returns-2)

@@ -16,7 +16,7 @@ use Rattle.arith.proofs.Modulus.{rest, rest-pos_part, rest-neg_part, rest-fits, 
 use Rattle.arith.proofs.wrap_u32.Statement.{statement}
 use Rattle.arith.proofs.wrap_u32.Tie as tie
 
-rem-rest : tie.Need-nonzero-rem-rest
+rem-rest : tie.Need-nonzero_rem-rest
 rem-rest c = simp (to_z-of_z c.ranges.v) (lit< tt, quot_fits c.args.v (2 ^ 32) c.ranges.v)
 
 -- ---- the remainder is below zero: one modulus more
@@ -24,8 +24,8 @@ rem-rest c = simp (to_z-of_z c.ranges.v) (lit< tt, quot_fits c.args.v (2 ^ 32) c
 up : ℤ → ℤ
 up v = rest v +ℤ pos (2 ^ 32)
 
-taken : (c : tie.Then1) → lt_z (rest c.before.args.v) (pos 0) ≡ true
-taken c = simp (to_z-of_z c.before.ranges.v, to_z-of_z (rest-fits c.before.args.v)) at c.if1.true
+taken : (c : tie.Then-rest-lt0) → lt_z (rest c.before.args.v) (pos 0) ≡ true
+taken c = simp (to_z-of_z c.before.ranges.v, to_z-of_z (rest-fits c.before.args.v)) at c.if-rest-lt0.true
 
 up-range : (v : ℤ) → lt_z (rest v) (pos 0) ≡ true → (neg_part (up v) ≤ pos_part (up v)) × (pos_part (up v) < 2 ^ 32 + neg_part (up v))
 unfolding up
@@ -41,20 +41,20 @@ up_is v t =
     let n = nat-pn (up v) r.0 in
     record { small = omega arith; alike = omega (arith, add-pn (rest v) (pos (2 ^ 32)), rest-pos_part v, rest-neg_part v) }
 
-add-result : tie.Need-overflow-add-result
+add-result : tie.Need-overflow_add-result
 unfolding up
 add-result c =
     let v = c.before.args.v in
     simp (to_z-of_z c.before.ranges.v, to_z-of_z (rest-fits v)) (up_fits v (taken c))
 
-cast-result : tie.Need-overflow-cast-result
+cast-result : tie.Need-overflow_cast-result
 unfolding up
 cast-result c =
     let v = c.before.args.v in
     let r = up-range v (taken c) in
     simp (to_z-of_z c.before.ranges.v, to_z-of_z (rest-fits v), to_z-of_z (up_fits v (taken c))) (unsign w32 (up v) r.0 r.1)
 
-returns : tie.Need-returns
+returns : tie.Need-returns-then-rest-lt0
 unfolding up
 returns c =
     let v = c.before.args.v in
@@ -62,23 +62,23 @@ returns c =
 
 -- ---- it is not: the remainder itself
 
-kept : (c : tie.Else1) → neg_part (rest c.before.args.v) ≤ pos_part (rest c.before.args.v)
+kept : (c : tie.Else-rest-lt0) → neg_part (rest c.before.args.v) ≤ pos_part (rest c.before.args.v)
 kept c =
     let v = c.before.args.v in
-    omega (arith, ge-pn (rest v) (pos 0) (simp (to_z-of_z c.before.ranges.v, to_z-of_z (rest-fits v)) at c.if1.false))
+    omega (arith, ge-pn (rest v) (pos 0) (simp (to_z-of_z c.before.ranges.v, to_z-of_z (rest-fits v)) at c.if-rest-lt0.false))
 
-cast-result-2 : tie.Need-overflow-cast-result-2
+cast-result-2 : tie.Need-overflow_cast-result-2
 cast-result-2 c =
     let v = c.before.args.v in
     simp (to_z-of_z c.before.ranges.v, to_z-of_z (rest-fits v)) (unsign w32 (rest v) (kept c) (omega (arith, rest-pos_part v)))
 
-returns-2 : tie.Need-returns-2
+returns-2 : tie.Need-returns
 returns-2 c =
     let v = c.before.args.v in
     let n = nat-pn (rest v) (kept c) in
     simp (to_z-of_z c.before.ranges.v, to_z-of_z (rest-fits v))
     (mod-only v (nat_abs (rest v)) (record { small = omega (arith, rest-pos_part v); alike = omega (arith, rest-pos_part v, rest-neg_part v, kept c) }))
 
-pub wrap-u32-spec : {M : Type 1} → statement M
-wrap-u32-spec =
+pub wrap_u32_spec : {M : Type 1} → statement M
+wrap_u32_spec =
     tie.close (tie.spec rem-rest add-result cast-result returns cast-result-2 returns-2)

@@ -35,36 +35,36 @@ use Rattle.calls.proofs.ask.Tie as tie
 
 -- ---- the sheet
 
-read-sheet-requires : tie.Need-read-sheet-requires
+read-sheet-requires : tie.Need-read_sheet-requires
 read-sheet-requires c κs = search rules
 
-enum-known-number : tie.Need-enum-known-number
+enum-known-number : tie.Need-enum_known-number
 enum-known-number c = search rules
 
-enum-known-p : tie.Need-enum-known-p
+enum-known-p : tie.Need-enum_known-p
 enum-known-p c = search rules
 
 -- a sheet that cannot be read, and one that can
-unread : (c : tie.After-number) → Unread (sheet_number c.before.before.before.args.sheet.now) c.number.given.0.0
-unread c = sheet-refused _ (sym c.before.before.read-sheet.ensures ∙ c.number.given.1)
+unread : (c : tie.In-Refused-2) → Unread (sheet_number c.before.before.before.args.sheet.now) c.number-1.given.0.0
+unread c = sheet-refused _ (sym c.before.before.read_sheet.ensures ∙ c.number-1.given.1)
 
-readable : (c : tie.After-p) → Sheeted c.before.before.before.args.sheet.now c.p.given.0.0
-readable c = sheet-read _ (sym c.before.before.read-sheet.ensures ∙ c.p.given.1)
+readable : (c : tie.In-Sheet-2) → Sheeted c.before.before.before.args.sheet.now c.p-1.given.0.0
+readable c = sheet-read _ (sym c.before.before.read_sheet.ensures ∙ c.p-1.given.1)
 
-returns-4 : tie.Need-returns-4
+returns-4 : tie.Need-returns-in-Refused
 unfolding ask_answer
 returns-4 c = let u = unread c.before in refuses _ _ _ u.some (first-is _ _ u.some u.is)
 
 -- ---- slices that are no state
 
-is-state-requires : tie.Need-is-state-requires
+is-state-requires : tie.Need-is_state-requires
 is-state-requires c κs = search rules
 
-no-state-requires : tie.Need-no-state-requires
+no-state-requires : tie.Need-no_state-requires
 no-state-requires c κs = search rules
 
-module _ (c : tie.After-is-state) where
-  abbrev arm : tie.After-p
+module _ (c : tie.After-is_state) where
+  abbrev arm : tie.In-Sheet-2
   arm = c.before.before
 
   abbrev start : tie.Start
@@ -78,74 +78,74 @@ module _ (c : tie.After-is-state) where
 
   -- under the sheet that was read it is as under the sheet asked for
   same : {A : Type 0} (of : Sheet → A)
-      → of (let a = start.args in sheet_of arm.p.given.0.0 a.h.now a.g.now a.k.now) ≡ of sheet
+      → of (let a = start.args in sheet_of arm.p-1.given.0.0 a.h.now a.g.now a.k.now) ≡ of sheet
   same of = let a = start.args in ap (λ (p : Params). of (sheet_of p a.h.now a.g.now a.k.now)) (readable arm).is
 
-returns : tie.Need-returns
+returns : tie.Need-returns-then-not-is_state
 unfolding ask_answer
 returns c =
     let t = c.before.before in
-    let unfit = sym t.is_state.ensures ∙ not-true t.is_state.result c.before.if1.true in
-    let is = c.no-state.ensures ∙ same t (λ s. first_number (judged s).number 9) ∙ sym (no-state-is (sheet t) (given t) unfit) in
+    let unfit = sym t.is_state.ensures ∙ not-true t.is_state.result c.before.if-not-is_state.true in
+    let is = c.no_state.ensures ∙ same t (λ s. first_number (judged s).number 9) ∙ sym (no-state-is (sheet t) (given t) unfit) in
     let some = no-state-refuses (sheet t) (given t) unfit is in
     refuses _ _ _ some (then_is _ _ (readable (arm t)).none (first-is _ _ some is))
 
 -- ---- a state
 
-read-state-requires : tie.Need-read-state-requires
+read-state-requires : tie.Need-read_state-requires
 read-state-requires c κs = search rules
 
-ask-requires : tie.Need-ask-requires
+ask-requires : tie.Need-ask-asked-requires
 ask-requires c κs = search rules
 
-number-requires : tie.Need-number-requires
+number-requires : tie.Need-number-refused-requires
 number-requires c κs = search rules
 
-module _ (c : tie.Else1) where
-  abbrev tested : tie.After-is-state
+module _ (c : tie.Else-not-is_state) where
+  abbrev tested : tie.After-is_state
   tested = c.before
 
   fitting : state_fits (given tested) ≡ true
-  fitting = sym tested.is_state.ensures ∙ not-false tested.is_state.result c.if1.false
+  fitting = sym tested.is_state.ensures ∙ not-false tested.is_state.result c.if-not-is_state.false
 
-abbrev right : tie.After-ask → tie.Else1
+abbrev right : tie.After-ask-asked → tie.Else-not-is_state
 right c = c.before.before
 
-told : (c : tie.After-ask) → let t = tested (right c) in asked c.ask.result ≡ ask_of (sheet t) (state_of (given t))
+told : (c : tie.After-ask-asked) → let t = tested (right c) in asked c.ask-asked.result ≡ ask_of (sheet t) (state_of (given t))
 told c =
     let t = tested (right c) in
-    c.ask.ensures ∙ same t (λ s. ask_of s c.before.read-state.result)
-    ∙ ap (ask_of (sheet t)) (c.before.read-state.ensures ∙ state-read (sheet t) (given t) (fitting (right c)))
+    c.ask-asked.ensures ∙ same t (λ s. ask_of s c.before.read_state.result)
+    ∙ ap (ask_of (sheet t)) (c.before.read_state.ensures ∙ state-read (sheet t) (given t) (fitting (right c)))
 
-numbered : (c : tie.After-number2) → let t = tested (right c.before) in c.number2.result ≡ (ask_of (sheet t) (state_of (given t))).refused.number
-numbered c = c.number2.ensures ∙ ap (λ (a : Ask). a.refused.number) (told c.before)
+numbered : (c : tie.After-number-refused) → let t = tested (right c.before) in c.number-refused.result ≡ (ask_of (sheet t) (state_of (given t))).refused.number
+numbered c = c.number-refused.ensures ∙ ap (λ (a : Ask). a.refused.number) (told c.before)
 
 -- what comes behind the state's own number
-behind : (c : tie.Else1) (rest : ℕ) {n : ℕ} → n ≡ rest
+behind : (c : tie.Else-not-is_state) (rest : ℕ) {n : ℕ} → n ≡ rest
     → n ≡ first_number (sheet_number (start (tested c)).args.sheet.now) (first_number (state_number (sheet (tested c)) (given (tested c))) rest)
 behind c rest e = then_is _ _ (readable (arm (tested c))).none (then_is _ _ (state-passes (sheet (tested c)) (given (tested c)) (fitting c)) e)
 
-returns-2 : tie.Need-returns-2
+returns-2 : tie.Need-returns-then-refused-ne0
 unfolding ask_answer
 returns-2 c =
     let n = c.before in
-    refuses _ _ _ c.if2.true (behind (right n.before) _ (first-is _ _ c.if2.true (numbered n)))
+    refuses _ _ _ c.if-refused-ne0.true (behind (right n.before) _ (first-is _ _ c.if-refused-ne0.true (numbered n)))
 
 -- ---- nothing is refused so far
 
 -- so the length of the answer decides
-sized : (c : tie.Else2) (room : ℕ) {n : ℕ} → n ≡ room
+sized : (c : tie.Else-refused-ne0) (room : ℕ) {n : ℕ} → n ≡ room
     → let t = tested (right c.before.before) in
     n ≡ first_number (sheet_number (start t).args.sheet.now)
     (first_number (state_number (sheet t) (given t)) (first_number (ask_of (sheet t) (state_of (given t))).refused.number room))
-sized c room e = let n = c.before in behind (right n.before) _ (then_is _ _ (sym (numbered n) ∙ c.if2.false) e)
+sized c room e = let n = c.before in behind (right n.before) _ (then_is _ _ (sym (numbered n) ∙ c.if-refused-ne0.false) e)
 
-returns-3 : tie.Need-returns-3
+returns-3 : tie.Need-returns-then-answer-lt1
 unfolding ask_answer
 returns-3 c =
     let e = c.before in
     let l = (start (tested (right e.before.before))).args.answer.now in
-    let short : ◌≡◌ {A = ℕ} 11 (cond (leb 1 (length l)) 0 11) = rw (lt-leb 1 (length l) c.if3.true) refl in
+    let short : ◌≡◌ {A = ℕ} 11 (cond (leb 1 (length l)) 0 11) = rw (lt-leb 1 (length l) c.if-answer-lt1.true) refl in
     refuses _ _ _ (λ z. absurd (omega arith)) (sized e _ short)
 
 -- no ticket is above the state's symbols
@@ -157,40 +157,40 @@ few s f = go (eqb (first_of (ask_faults s f)).number 0) refl
     go true e = rw e (omega arith)
     go false e = rw e (omega arith)
 
-small : (c : tie.After-ask) → c.ask.result.ticket ≤ 9223372036854775807
+small : (c : tie.After-ask-asked) → c.ask-asked.result.ticket ≤ 9223372036854775807
 unfolding state_of registers_at
 small c =
     let t = tested (right c) in
     let five = (first-at (given t).places (first_fits (readable-state (given t) (fitting (right c)))) 5 (lit< tt)).is in
-    let ticket : c.ask.result.ticket ≡ (ask_of (sheet t) (state_of (given t))).ticket = ap (λ (a : Ask). a.ticket) (told c) in
+    let ticket : c.ask-asked.result.ticket ≡ (ask_of (sheet t) (state_of (given t))).ticket = ap (λ (a : Ask). a.ticket) (told c) in
     omega (arith, ticket, few (sheet t) (state_of (given t)), count_small (at (given t).places 5) five)
 
-cast-answer : tie.Need-overflow-cast-answer
+cast-answer : tie.Need-overflow_cast-answer
 cast-answer c = sfit (omega (arith, small c.before.before.before.before))
 
-slice-set-from-answer : tie.Need-slice-set-from-answer
+slice-set-from-answer : tie.Need-bounds-answer-0
 slice-set-from-answer c = search rules
 
-same_length : tie.Need-same-length
+same_length : tie.Need-shape_of-answer
 same_length c = search rules
 
 -- what the store leaves, once the cast is read back
 stored : (ticket : ℕ) (l : List ℤ) → ticket ≤ 9223372036854775807 → 1 ≤ length l → sets l 0 (to_z w64 ticket ∷ []) ≡ pos ticket ∷ drop 1 l
 stored ticket l small long = simp (to_z_pos w64 {n = ticket} (omega arith)) (sets-eq (pos ticket ∷ []) l 0 (omega arith))
 
-returns-5 : tie.Need-returns-5
+returns-5 : tie.Need-returns-else-answer-lt1
 unfolding ask_answer
 returns-5 c =
     let e3 = c.before in
     let e = e3.before in
     let asks = e.before.before in
     let l = (start (tested (right asks))).args.answer.now in
-    let long : ◌≡◌ {A = ℕ} 0 (cond (leb 1 (length l)) 0 11) = rw (le-leb 1 (length l) e3.if3.false) refl in
+    let long : ◌≡◌ {A = ℕ} 0 (cond (leb 1 (length l)) 0 11) = rw (le-leb 1 (length l) e3.if-answer-lt1.false) refl in
     writes _ _ _ (sized e _ long)
-    (stored asks.ask.result.ticket l (small asks) e3.if3.false ∙ ap (λ (a : Ask). pos a.ticket ∷ drop 1 l) (told asks))
+    (stored asks.ask-asked.result.ticket l (small asks) e3.if-answer-lt1.false ∙ ap (λ (a : Ask). pos a.ticket ∷ drop 1 l) (told asks))
 
-pub ask-spec : {M : Type 1} → statement M
-ask-spec =
+pub ask_spec : {M : Type 1} → statement M
+ask_spec =
     tie.close
     (tie.spec
     read-sheet-requires

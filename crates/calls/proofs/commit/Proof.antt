@@ -30,36 +30,36 @@ use Rattle.calls.proofs.commit.Tie as tie
 
 -- ---- the sheet
 
-read-sheet-requires : tie.Need-read-sheet-requires
+read-sheet-requires : tie.Need-read_sheet-requires
 read-sheet-requires c κs = search rules
 
-enum-known-number : tie.Need-enum-known-number
+enum-known-number : tie.Need-enum_known-number
 enum-known-number c = search rules
 
-enum-known-p : tie.Need-enum-known-p
+enum-known-p : tie.Need-enum_known-p
 enum-known-p c = search rules
 
 -- a sheet that cannot be read, and one that can
-unread : (c : tie.After-number) → Unread (sheet_number c.before.before.before.args.sheet.now) c.number.given.0.0
-unread c = sheet-refused _ (sym c.before.before.read-sheet.ensures ∙ c.number.given.1)
+unread : (c : tie.In-Refused-2) → Unread (sheet_number c.before.before.before.args.sheet.now) c.number-1.given.0.0
+unread c = sheet-refused _ (sym c.before.before.read_sheet.ensures ∙ c.number-1.given.1)
 
-readable : (c : tie.After-p) → Sheeted c.before.before.before.args.sheet.now c.p.given.0.0
-readable c = sheet-read _ (sym c.before.before.read-sheet.ensures ∙ c.p.given.1)
+readable : (c : tie.In-Sheet-2) → Sheeted c.before.before.before.args.sheet.now c.p-1.given.0.0
+readable c = sheet-read _ (sym c.before.before.read_sheet.ensures ∙ c.p-1.given.1)
 
-returns-3 : tie.Need-returns-3
+returns-3 : tie.Need-returns-in-Refused
 unfolding commit_answer
 returns-3 c = let u = unread c.before in refuses _ _ _ u.some (first-is _ _ u.some u.is)
 
 -- ---- slices that are no state
 
-is-state-requires : tie.Need-is-state-requires
+is-state-requires : tie.Need-is_state-requires
 is-state-requires c κs = search rules
 
-no-state-requires : tie.Need-no-state-requires
+no-state-requires : tie.Need-no_state-requires
 no-state-requires c κs = search rules
 
-module _ (c : tie.After-is-state) where
-  abbrev arm : tie.After-p
+module _ (c : tie.After-is_state) where
+  abbrev arm : tie.In-Sheet-2
   arm = c.before.before.before
 
   abbrev start : tie.Start
@@ -69,92 +69,92 @@ module _ (c : tie.After-is-state) where
   sheet = let a = start.args in sheet_at a.sheet.now a.h.now a.g.now a.k.now
 
   abbrev given : Slices
-  given = let a = start.args in slices a.state.now a.line.now a.errors.now
+  given = let a = start.args in slices a.state-1.now a.line.now a.errors.now
 
   -- under the sheet that was read it is as under the sheet asked for
   same : {A : Type 0} (of : Sheet → A)
-      → of (let a = start.args in sheet_of arm.p.given.0.0 a.h.now a.g.now a.k.now) ≡ of sheet
+      → of (let a = start.args in sheet_of arm.p-1.given.0.0 a.h.now a.g.now a.k.now) ≡ of sheet
   same of = let a = start.args in ap (λ (p : Params). of (sheet_of p a.h.now a.g.now a.k.now)) (readable arm).is
 
-same_length : tie.Need-same-length
+same_length : tie.Need-shape_of-state-then-not-is_state
 same_length c = search rules
 
-returns : tie.Need-returns
+returns : tie.Need-returns-then-not-is_state
 unfolding commit_answer
 returns c =
     let t = c.before.before in
-    let unfit = sym t.is_state.ensures ∙ not-true t.is_state.result c.before.if1.true in
-    let is = c.no-state.ensures ∙ same t (λ s. first_number (judged s).number 9) ∙ sym (no-state-is (sheet t) (given t) unfit) in
+    let unfit = sym t.is_state.ensures ∙ not-true t.is_state.result c.before.if-not-is_state.true in
+    let is = c.no_state.ensures ∙ same t (λ s. first_number (judged s).number 9) ∙ sym (no-state-is (sheet t) (given t) unfit) in
     let some = no-state-refuses (sheet t) (given t) unfit is in
     refuses _ _ _ some (then_is _ _ (readable (arm t)).none (first-is _ _ some is))
 
 -- ---- a state
 
-read-state-requires : tie.Need-read-state-requires
+read-state-requires : tie.Need-read_state-before-requires
 read-state-requires c κs = search rules
 
-commit-requires : tie.Need-commit-requires
+commit-requires : tie.Need-commit-done-requires
 commit-requires c κs = search rules
 
-number-requires : tie.Need-number-requires
+number-requires : tie.Need-number-refused-requires
 number-requires c κs = search rules
 
-module _ (c : tie.Else1) where
-  abbrev tested : tie.After-is-state
+module _ (c : tie.Else-not-is_state) where
+  abbrev tested : tie.After-is_state
   tested = c.before
 
   fitting : state_fits (given tested) ≡ true
-  fitting = sym tested.is_state.ensures ∙ not-false tested.is_state.result c.if1.false
+  fitting = sym tested.is_state.ensures ∙ not-false tested.is_state.result c.if-not-is_state.false
 
-abbrev right : tie.After-commit → tie.Else1
+abbrev right : tie.After-commit-done → tie.Else-not-is_state
 right c = c.before.before.before
 
 -- what committing answers of the state that the slices say
-abbrev answer : tie.Else1 → Commit
+abbrev answer : tie.Else-not-is_state → Commit
 answer c = let t = tested c in commit_of (sheet t) (start t).args.ticket (state_of (given t))
 
-told : (c : tie.After-commit) → committed c.commit.result ≡ answer (right c)
+told : (c : tie.After-commit-done) → committed c.commit-done.result ≡ answer (right c)
 told c =
     let t = tested (right c) in
     let ticket = (start t).args.ticket in
-    c.commit.ensures ∙ same t (λ s. commit_of s ticket c.before.read-state.result)
-    ∙ ap (commit_of (sheet t) ticket) (c.before.read-state.ensures ∙ state-read (sheet t) (given t) (fitting (right c)))
+    c.commit-done.ensures ∙ same t (λ s. commit_of s ticket c.before.read_state-before.result)
+    ∙ ap (commit_of (sheet t) ticket) (c.before.read_state-before.ensures ∙ state-read (sheet t) (given t) (fitting (right c)))
 
-numbered : (c : tie.After-number2) → c.number2.result ≡ (answer (right c.before)).refused.number
-numbered c = c.number2.ensures ∙ ap (λ (a : Commit). a.refused.number) (told c.before)
+numbered : (c : tie.After-number-refused) → c.number-refused.result ≡ (answer (right c.before)).refused.number
+numbered c = c.number-refused.ensures ∙ ap (λ (a : Commit). a.refused.number) (told c.before)
 
 -- what comes behind the state's own number
-behind : (c : tie.Else1) {n : ℕ} → n ≡ (answer c).refused.number
+behind : (c : tie.Else-not-is_state) {n : ℕ} → n ≡ (answer c).refused.number
     → n ≡ first_number (sheet_number (start (tested c)).args.sheet.now)
     (first_number (state_number (sheet (tested c)) (given (tested c))) (answer c).refused.number)
 behind c e = then_is _ _ (readable (arm (tested c))).none (then_is _ _ (state-passes (sheet (tested c)) (given (tested c)) (fitting c)) e)
 
-same-length-2 : tie.Need-same-length-2
+same-length-2 : tie.Need-shape_of-state-then-refused-ne0
 same-length-2 c = search rules
 
-returns-2 : tie.Need-returns-2
+returns-2 : tie.Need-returns-then-refused-ne0
 unfolding commit_answer
-returns-2 c = let n = c.before in refuses _ _ _ c.if2.true (behind (right n.before) (numbered n))
+returns-2 c = let n = c.before in refuses _ _ _ c.if-refused-ne0.true (behind (right n.before) (numbered n))
 
 -- ---- nothing is refused
 
 -- there are 28 places
-long : (c : tie.Else2) → length (given (tested (right c.before.before))).places ≡ 28
+long : (c : tie.Else-refused-ne0) → length (given (tested (right c.before.before))).places ≡ 28
 long c = let r = right c.before.before in (readable-state (given (tested r)) (fitting r)).long
 
-sub-write-sheet : tie.Need-overflow-sub-write-sheet
+sub-write-sheet : tie.Need-slice_bounds-write_sheet-count
 sub-write-sheet c = omega (arith, long c)
 
-part-write-sheet-start : tie.Need-slice-bounds-write-sheet-start
+part-write-sheet-start : tie.Need-slice_bounds-write_sheet-start
 part-write-sheet-start c = omega (arith, long c)
 
-part-write-sheet-end : tie.Need-slice-bounds-write-sheet-end
+part-write-sheet-end : tie.Need-slice_bounds-write_sheet-end
 part-write-sheet-end c = search rules
 
-write-sheet-requires : tie.Need-write-sheet-requires
+write-sheet-requires : tie.Need-write_sheet-requires
 write-sheet-requires c κs = search rules
 
-same-length-3 : tie.Need-same-length-3
+same-length-3 : tie.Need-shape_of-state
 same-length-3 c = search rules
 
 -- a commit that refuses nothing leaves the state with the new fields
@@ -192,7 +192,7 @@ module _ (l : Slices) (fits : state_fits l ≡ true) (p : Params) where
       let post : post_of 10 count l.places ≡ [] = drop_of_length-le (drop 10 l.places) {i = count} (omega (arith, length-drop 10 l.places)) in
       (λ i. front i ++ (e i ++ post i)) ∙ ap (λ (x : List ℤ). first_numbers (state_of l) ++ x) (append-nil (sheet_numbers p))
 
-returns-4 : tie.Need-returns-4
+returns-4 : tie.Need-returns-else-refused-ne0
 unfolding commit_answer
 returns-4 c =
     let w = c.before in
@@ -201,17 +201,17 @@ returns-4 c =
     let r = right n.before in
     let t = tested r in
     let l = given t in
-    let p = (arm t).p.given.0.0 in
-    let ys = w.write-sheet.new.1.0 in
-    let none = sym (numbered n) ∙ e.if2.false in
-    let wrote = written l (fitting r) p (record { number = w.write-sheet.result; places = ys }) w.write-sheet.ensures in
+    let p = (arm t).p-1.given.0.0 in
+    let ys = w.write_sheet.new.1.0 in
+    let none = sym (numbered n) ∙ e.if-refused-ne0.false in
+    let wrote = written l (fitting r) p (record { number = w.write_sheet.result; places = ys }) w.write_sheet.ensures in
     let holds : retuned p (state_of l) ≡ (answer r).state =
     ap (λ (q : Params). retuned q (state_of l)) (readable (arm t)).is ∙ sym (takes (sheet t) (start t).args.ticket (state_of l) none) in
     let places = put l (fitting r) p ys wrote.1 ∙ ap (λ (f : Frontend). (numbers_of f).places) holds in
     (λ i. record { number = wrote.0 i; places = places i }) ∙ writes _ _ _ (behind r (sym none)) refl
 
-pub commit-spec : {M : Type 1} → statement M
-commit-spec =
+pub commit_spec : {M : Type 1} → statement M
+commit_spec =
     tie.close
     (tie.spec
     read-sheet-requires

@@ -29,39 +29,39 @@ use Rattle.calls.proofs.design.Tie as tie
 
 -- ---- the places
 
-read-design-requires : tie.Need-read-design-requires
+read-design-requires : tie.Need-read_design-requires
 read-design-requires c κs = search rules
 
-enum-known-number : tie.Need-enum-known-number
+enum-known-number : tie.Need-enum_known-number
 enum-known-number c = search rules
 
-enum-known-design : tie.Need-enum-known-design
+enum-known-design : tie.Need-enum_known-design
 enum-known-design c = search rules
 
-readable : (c : tie.After-design)
-    → let a = c.before.before.before.before.args in Readable a.rates.now a.fields.now c.design.given.0.0 c.design.given.0.1.0
-readable c = design-read _ _ (sym c.before.before.read-design.ensures ∙ c.design.given.1)
+readable : (c : tie.In-Design-2)
+    → let a = c.before.before.before.before.args in Readable a.rates.now a.fields.now c.design-1.given.0.0 c.design-1.given.0.1.0
+readable c = design-read _ _ (sym c.before.before.read_design.ensures ∙ c.design-1.given.1)
 
-params-requires : tie.Need-params-requires
+params-requires : tie.Need-params-verdict-requires
 params-requires c κs = search rules
 
 -- ---- the design
 
 -- what it answers
-module _ (c : tie.After-params) where
+module _ (c : tie.After-params-verdict) where
   abbrev start : tie.Start
   start = c.before.before.before.before.before.before
 
   abbrev answer : Designed Params
   answer = let a = start.args in sheet_of_design (design_at a.rates.now a.fields.now) (gains_at a.fields.now) a.h.now a.g.now a.k.now
 
-  told : sheet_answer c.params.result ≡ answer
+  told : sheet_answer c.params-verdict.result ≡ answer
   told =
       let a = start.args in
       let arm = c.before.before in
-      let of-design : Design → Designed Params = λ d. sheet_of_design d arm.design.given.0.1.0 a.h.now a.g.now a.k.now in
+      let of-design : Design → Designed Params = λ d. sheet_of_design d arm.design-1.given.0.1.0 a.h.now a.g.now a.k.now in
       let of-gains : Gains → Designed Params = λ s. sheet_of_design (design_at a.rates.now a.fields.now) s a.h.now a.g.now a.k.now in
-      c.params.ensures ∙ ap of-design (readable arm).is ∙ ap of-gains (readable arm).with
+      c.params-verdict.ensures ∙ ap of-design (readable arm).is ∙ ap of-gains (readable arm).with
 
 -- a refusal has a number
 design-numbered : (e : DesignError) → 0 < (design_refusal e).number
@@ -74,38 +74,38 @@ sheet-numbered : (e : SheetError) → 0 < (sheet_refusal e).number
 sheet-numbered (SheetError.Design e) = design-numbered e
 sheet-numbered (SheetError.Params e) = error-numbered e
 
-enum-known-verdict : tie.Need-enum-known-verdict
+enum-known-verdict : tie.Need-enum_known-verdict
 enum-known-verdict c = search rules
 
 number-requires : tie.Need-number-requires
 number-requires c κs = search rules
 
-enum-known-verdict-2 : tie.Need-enum-known-verdict-2
+enum-known-verdict-2 : tie.Need-enum_known-verdict-in-Accepted-1
 enum-known-verdict-2 c = search rules
 
-write-sheet-requires : tie.Need-write-sheet-requires
+write-sheet-requires : tie.Need-write_sheet-requires
 write-sheet-requires c κs = search rules
 
-returns : tie.Need-returns
+returns : tie.Need-returns-in-Refused
 unfolding design_answer
 returns c =
     let arm = c.before in
-    let unread = design-refused _ _ (sym arm.before.before.read-design.ensures ∙ arm.number.given.1) in
+    let unread = design-refused _ _ (sym arm.before.before.read_design.ensures ∙ arm.number-1.given.1) in
     refuses _ _ _ unread.some (first-is _ _ unread.some unread.is)
 
-returns-2 : tie.Need-returns-2
+returns-2 : tie.Need-returns-in-Refused-verdict
 unfolding design_answer
 returns-2 c =
     let arm = c.before.before in
-    let refused = arm.verdict.given in
+    let refused = arm.verdict-1.given in
     let designed = arm.before.before in
-    let is : c.number2.result ≡ refused_by (answer designed) = c.number2.ensures ∙ ap refused_by (sym (ap sheet_answer refused.1) ∙ told designed) in
-    let some : c.number2.result ≡ 0 → ⊥ = λ z. omega (arith, sheet-numbered refused.0.0, c.number2.ensures) in
+    let is : c.number.result ≡ refused_by (answer designed) = c.number.ensures ∙ ap refused_by (sym (ap sheet_answer refused.1) ∙ told designed) in
+    let some : c.number.result ≡ 0 → ⊥ = λ z. omega (arith, sheet-numbered refused.0.0, c.number.ensures) in
     refuses _ _ _ some (then_is _ _ (readable designed.before.before).none (first-is _ _ some is))
 
 -- ---- the sheet
 
-same_length : tie.Need-same-length
+same_length : tie.Need-shape_of-sheet
 same_length c = search rules
 
 -- where the design has one, the number of places decides
@@ -114,21 +114,21 @@ sized : (p : Params) (places : List ℤ)
 unfolding sheet_written
 sized p places = refl
 
-returns-3 : tie.Need-returns-3
+returns-3 : tie.Need-returns-in-Accepted
 unfolding design_answer
 returns-3 c =
     let arm = c.before.before.before.before in
     let designed = arm.before.before in
     let places = (start designed).args.sheet.now in
     let room : ℕ = cond (leb 18 (length places)) 0 11 in
-    let is : accepted arm.verdict2.given.0.0 ≡ answer designed = sym (ap sheet_answer arm.verdict2.given.1) ∙ told designed in
-    c.before.write-sheet.ensures
+    let is : accepted arm.verdict-in-Accepted-1.given.0.0 ≡ answer designed = sym (ap sheet_answer arm.verdict-in-Accepted-1.given.1) ∙ told designed in
+    c.before.write_sheet.ensures
     ∙ sized _ places
     ∙ ap (λ (d : Designed Params). answered (first_number (refused_by d) room) (written_by d places) places) is
     ∙ sym (then-answer _ _ _ places (readable designed.before.before).none)
 
-pub design-spec : {M : Type 1} → statement M
-design-spec =
+pub design_spec : {M : Type 1} → statement M
+design_spec =
     tie.close
     (tie.spec
     read-design-requires

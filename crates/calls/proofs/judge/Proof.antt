@@ -11,42 +11,42 @@ use Rattle.calls.specs.Calls.{judge_number, sheet_at}
 use Rattle.calls.proofs.judge.Statement.{statement}
 use Rattle.calls.proofs.judge.Tie as tie
 
-read-sheet-requires : tie.Need-read-sheet-requires
+read-sheet-requires : tie.Need-read_sheet-requires
 read-sheet-requires c κs = search rules
 
-enum-known-number : tie.Need-enum-known-number
+enum-known-number : tie.Need-enum_known-number
 enum-known-number c = search rules
 
-enum-known-p : tie.Need-enum-known-p
+enum-known-p : tie.Need-enum_known-p
 enum-known-p c = search rules
 
-validate-requires : tie.Need-validate-requires
+validate-requires : tie.Need-validate-verdict-requires
 validate-requires c κs = search rules
 
 number-requires : tie.Need-number-requires
 number-requires c κs = search rules
 
-returns : tie.Need-returns
+returns : tie.Need-returns-in-Refused
 unfolding judge_number
 returns c =
     let arm = c.before in
-    let unread = sheet-refused _ (sym arm.before.before.read-sheet.ensures ∙ arm.number.given.1) in
+    let unread = sheet-refused _ (sym arm.before.before.read_sheet.ensures ∙ arm.number-1.given.1) in
     first-is _ _ unread.some unread.is
 
-returns-2 : tie.Need-returns-2
+returns-2 : tie.Need-returns-in-Sheet
 unfolding judge_number
 returns-2 c =
     let judging = c.before in
     let arm = judging.before.before in
     let read = arm.before.before in
     let a = read.before.args in
-    let sheet = sheet-read _ (sym read.read-sheet.ensures ∙ arm.p.given.1) in
+    let sheet = sheet-read _ (sym read.read_sheet.ensures ∙ arm.p-1.given.1) in
     then_is (sheet_number a.sheet.now) (judged (sheet_at a.sheet.now a.h.now a.g.now a.k.now)).number sheet.none
-    (c.number2.ensures ∙ ap (λ (r : Refusal). r.number) judging.validate.ensures
+    (c.number.ensures ∙ ap (λ (r : Refusal). r.number) judging.validate-verdict.ensures
     ∙ ap (λ (p : Params). (judged (sheet_of p a.h.now a.g.now a.k.now)).number) sheet.is)
 
-pub judge-spec : {M : Type 1} → statement M
-judge-spec =
+pub judge_spec : {M : Type 1} → statement M
+judge_spec =
     tie.close
     (tie.spec
     read-sheet-requires

@@ -6,21 +6,21 @@ use Rattle.kinds.proofs.Answered.{first-is, then_is}
 use Rattle.calls.proofs.no_state.Statement.{statement}
 use Rattle.calls.proofs.no_state.Tie as tie
 
-validate-requires : tie.Need-validate-requires
+validate-requires : tie.Need-validate-verdict-requires
 validate-requires c κs = search rules
 
-number-requires : tie.Need-number-requires
+number-requires : tie.Need-number-refused-requires
 number-requires c κs = search rules
 
-returns : tie.Need-returns
+returns : tie.Need-returns-then-refused-ne0
 returns c =
     let n = c.before in
-    first-is _ _ c.if1.true (n.number.ensures ∙ ap (λ (r : Refusal). r.number) n.before.validate.ensures)
+    first-is _ _ c.if-refused-ne0.true (n.number-refused.ensures ∙ ap (λ (r : Refusal). r.number) n.before.validate-verdict.ensures)
 
-returns-2 : tie.Need-returns-2
+returns-2 : tie.Need-returns
 returns-2 c =
     let n = c.before in
-    then_is _ _ (sym (n.number.ensures ∙ ap (λ (r : Refusal). r.number) n.before.validate.ensures) ∙ c.if1.false) refl
+    then_is _ _ (sym (n.number-refused.ensures ∙ ap (λ (r : Refusal). r.number) n.before.validate-verdict.ensures) ∙ c.if-refused-ne0.false) refl
 
-pub no-state-spec : {M : Type 1} → statement M
-no-state-spec = tie.close (tie.spec validate-requires number-requires returns returns-2)
+pub no_state_spec : {M : Type 1} → statement M
+no_state_spec = tie.close (tie.spec validate-requires number-requires returns returns-2)

@@ -22,86 +22,86 @@ use Rattle.calls.specs.Calls.{sheet_at, offset_answer}
 use Rattle.calls.proofs.offset.Statement.{statement}
 use Rattle.calls.proofs.offset.Tie as tie
 
-read-sheet-requires : tie.Need-read-sheet-requires
+read-sheet-requires : tie.Need-read_sheet-requires
 read-sheet-requires c κs = search rules
 
-enum-known-number : tie.Need-enum-known-number
+enum-known-number : tie.Need-enum_known-number
 enum-known-number c = search rules
 
-enum-known-p : tie.Need-enum-known-p
+enum-known-p : tie.Need-enum_known-p
 enum-known-p c = search rules
 
 -- a sheet that cannot be read, and one that can
-unread : (c : tie.After-number) → Unread (sheet_number c.before.before.before.args.sheet.now) c.number.given.0.0
-unread c = sheet-refused _ (sym c.before.before.read-sheet.ensures ∙ c.number.given.1)
+unread : (c : tie.In-Refused-2) → Unread (sheet_number c.before.before.before.args.sheet.now) c.number-1.given.0.0
+unread c = sheet-refused _ (sym c.before.before.read_sheet.ensures ∙ c.number-1.given.1)
 
-readable : (c : tie.After-p) → Sheeted c.before.before.before.args.sheet.now c.p.given.0.0
-readable c = sheet-read _ (sym c.before.before.read-sheet.ensures ∙ c.p.given.1)
+readable : (c : tie.In-Sheet-2) → Sheeted c.before.before.before.args.sheet.now c.p-1.given.0.0
+readable c = sheet-read _ (sym c.before.before.read_sheet.ensures ∙ c.p-1.given.1)
 
-of-period-requires : tie.Need-of-period-requires
+of-period-requires : tie.Need-of_period-offset-requires
 of-period-requires c κs = search rules
 
-number-requires : tie.Need-number-requires
+number-requires : tie.Need-number-refused-requires
 number-requires c κs = search rules
 
 -- what the offset is by it
-module _ (c : tie.After-of-period) where
+module _ (c : tie.After-of_period-offset) where
   abbrev answer : Parts
   answer = let a = c.before.before.before.before.before.args in offset_of (sheet_at a.sheet.now a.h.now a.g.now a.k.now) a.period
 
-  told : offset_parts c.of-period.result ≡ answer
+  told : offset_parts c.of_period-offset.result ≡ answer
   told =
       let a = c.before.before.before.before.before.args in
-      c.of-period.ensures ∙ ap (λ (p : Params). offset_of (sheet_of p a.h.now a.g.now a.k.now) a.period) (readable c.before.before).is
+      c.of_period-offset.ensures ∙ ap (λ (p : Params). offset_of (sheet_of p a.h.now a.g.now a.k.now) a.period) (readable c.before.before).is
 
 -- its number
-number : (c : tie.After-number2) → c.number2.result ≡ (answer c.before).refused.number
-number c = c.number2.ensures ∙ ap (λ (s : Parts). s.refused.number) (told c.before)
+number : (c : tie.After-number-refused) → c.number-refused.result ≡ (answer c.before).refused.number
+number c = c.number-refused.ensures ∙ ap (λ (s : Parts). s.refused.number) (told c.before)
 
-returns : tie.Need-returns
+returns : tie.Need-returns-then-refused-ne0
 unfolding offset_answer
 returns c =
     let found = c.before.before in
-    refuses _ _ _ c.if1.true (then_is _ _ (readable found.before.before).none (first-is _ _ c.if1.true (number c.before)))
+    refuses _ _ _ c.if-refused-ne0.true (then_is _ _ (readable found.before.before).none (first-is _ _ c.if-refused-ne0.true (number c.before)))
 
 -- where both are 0, the length of the answer decides
-sized : (c : tie.After-number2) {n : ℕ} → c.number2.result ≡ 0
+sized : (c : tie.After-number-refused) {n : ℕ} → c.number-refused.result ≡ 0
     → let a = c.before.before.before.before.before.before.args in n ≡ cond (leb 1 (length a.answer.now)) 0 11
     → n ≡ first_number (sheet_number a.sheet.now) (first_number (answer c.before).refused.number (cond (leb 1 (length a.answer.now)) 0 11))
 sized c z e = then_is _ _ (readable c.before.before.before).none (then_is _ _ (sym (number c) ∙ z) e)
 
-returns-2 : tie.Need-returns-2
+returns-2 : tie.Need-returns-then-answer-lt1
 unfolding offset_answer
 returns-2 c =
     let verdict = c.before.before in
     let places = verdict.before.before.before.before.before.before.args.answer.now in
-    let short : ◌≡◌ {A = ℕ} 11 (cond (leb 1 (length places)) 0 11) = rw (lt-leb 1 (length places) c.if2.true) refl in
-    refuses _ _ _ (λ z. absurd (omega arith)) (sized verdict c.before.if1.false short)
+    let short : ◌≡◌ {A = ℕ} 11 (cond (leb 1 (length places)) 0 11) = rw (lt-leb 1 (length places) c.if-answer-lt1.true) refl in
+    refuses _ _ _ (λ z. absurd (omega arith)) (sized verdict c.before.if-refused-ne0.false short)
 
-slice-set-from-parts : tie.Need-slice-set-from-parts
+slice-set-from-parts : tie.Need-bounds-answer-0
 slice-set-from-parts c = search rules
 
-returns-3 : tie.Need-returns-3
+returns-3 : tie.Need-returns-in-Refused
 unfolding offset_answer
 returns-3 c = let u = unread c.before in refuses _ _ _ u.some (first-is _ _ u.some u.is)
 
-same_length : tie.Need-same-length
+same_length : tie.Need-shape_of-answer
 same_length c = search rules
 
-returns-4 : tie.Need-returns-4
+returns-4 : tie.Need-returns-else-answer-lt1
 unfolding offset_answer
 returns-4 c =
     let right = c.before in
     let verdict = right.before.before in
     let places = verdict.before.before.before.before.before.before.args.answer.now in
-    let parts = verdict.before.of-period.result.parts in
-    let long : ◌≡◌ {A = ℕ} 0 (cond (leb 1 (length places)) 0 11) = rw (le-leb 1 (length places) right.if2.false) refl in
-    writes _ _ _ (sized verdict right.before.if1.false long)
-    (simp (held w64 parts (search c.struct_told.given depth 40)) (sets-eq (parts ∷ []) places 0 (omega arith))
+    let parts = verdict.before.of_period-offset.result.parts in
+    let long : ◌≡◌ {A = ℕ} 0 (cond (leb 1 (length places)) 0 11) = rw (le-leb 1 (length places) right.if-answer-lt1.false) refl in
+    writes _ _ _ (sized verdict right.before.if-refused-ne0.false long)
+    (simp (held w64 parts (search c.struct_told-1.given depth 40)) (sets-eq (parts ∷ []) places 0 (omega arith))
     ∙ ap (λ (s : Parts). s.parts ∷ drop 1 places) (told verdict.before))
 
-pub offset-spec : {M : Type 1} → statement M
-offset-spec =
+pub offset_spec : {M : Type 1} → statement M
+offset_spec =
     tie.close
     (tie.spec
     read-sheet-requires

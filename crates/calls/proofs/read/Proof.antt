@@ -36,36 +36,36 @@ use Rattle.calls.proofs.read.Tie as tie
 
 -- ---- the sheet
 
-read-sheet-requires : tie.Need-read-sheet-requires
+read-sheet-requires : tie.Need-read_sheet-requires
 read-sheet-requires c κs = search rules
 
-enum-known-number : tie.Need-enum-known-number
+enum-known-number : tie.Need-enum_known-number
 enum-known-number c = search rules
 
-enum-known-p : tie.Need-enum-known-p
+enum-known-p : tie.Need-enum_known-p
 enum-known-p c = search rules
 
 -- a sheet that cannot be read, and one that can
-unread : (c : tie.After-number) → Unread (sheet_number c.before.before.before.args.sheet.now) c.number.given.0.0
-unread c = sheet-refused _ (sym c.before.before.read-sheet.ensures ∙ c.number.given.1)
+unread : (c : tie.In-Refused-2) → Unread (sheet_number c.before.before.before.args.sheet.now) c.number-1.given.0.0
+unread c = sheet-refused _ (sym c.before.before.read_sheet.ensures ∙ c.number-1.given.1)
 
-readable : (c : tie.After-p) → Sheeted c.before.before.before.args.sheet.now c.p.given.0.0
-readable c = sheet-read _ (sym c.before.before.read-sheet.ensures ∙ c.p.given.1)
+readable : (c : tie.In-Sheet-2) → Sheeted c.before.before.before.args.sheet.now c.p-1.given.0.0
+readable c = sheet-read _ (sym c.before.before.read_sheet.ensures ∙ c.p-1.given.1)
 
 -- ---- the state
 
-read-state-requires : tie.Need-read-state-requires
+read-state-requires : tie.Need-read_state-requires
 read-state-requires c κs = search rules
 
-read-requires : tie.Need-read-requires
+read-requires : tie.Need-read-reading-requires
 read-requires c κs = search rules
 
-number-requires : tie.Need-number-requires
+number-requires : tie.Need-number-refused-requires
 number-requires c κs = search rules
 
 -- what reading answers of any slices
-module _ (c : tie.After-read) where
-  abbrev arm : tie.After-p
+module _ (c : tie.After-read-reading) where
+  abbrev arm : tie.In-Sheet-2
   arm = c.before.before.before
 
   abbrev start : tie.Start
@@ -77,41 +77,41 @@ module _ (c : tie.After-read) where
   abbrev given : Slices
   given = let a = start.args in slices a.state.now a.line.now a.errors.now
 
-  told : reading c.read.result ≡ read_of sheet (read_state given)
+  told : reading c.read-reading.result ≡ read_of sheet (read_state given)
   told =
       let a = start.args in
-      let of-p : Params → Read = λ p. read_of (sheet_of p a.h.now a.g.now a.k.now) c.before.read-state.result in
-      c.read.ensures ∙ ap of-p (readable arm).is ∙ ap (λ (f : Frontend). read_of sheet f) c.before.read-state.ensures
+      let of-p : Params → Read = λ p. read_of (sheet_of p a.h.now a.g.now a.k.now) c.before.read_state.result in
+      c.read-reading.ensures ∙ ap of-p (readable arm).is ∙ ap (λ (f : Frontend). read_of sheet f) c.before.read_state.ensures
 
 -- its number: that of the slices, then that of the state that they say
-numbered : (c : tie.After-number2) → let r = c.before in
-    c.number2.result ≡ first_number (state_number (sheet r) (given r)) (read_of (sheet r) (state_of (given r))).refused.number
+numbered : (c : tie.After-number-refused) → let r = c.before in
+    c.number-refused.result ≡ first_number (state_number (sheet r) (given r)) (read_of (sheet r) (state_of (given r))).refused.number
 numbered c =
     let r = c.before in
-    c.number2.ensures ∙ ap (λ (a : Read). a.refused.number) (told r) ∙ reading-number (sheet r) (given r)
+    c.number-refused.ensures ∙ ap (λ (a : Read). a.refused.number) (told r) ∙ reading-number (sheet r) (given r)
 
-returns : tie.Need-returns
+returns : tie.Need-returns-then-refused-ne0
 unfolding read_answer
 returns c =
     let r = c.before.before in
     let room : ℕ = cond (leb 3 (length (start r).args.answer.now)) 0 11 in
     let state : ℕ = state_number (sheet r) (given r) in
     let read : ℕ = (read_of (sheet r) (state_of (given r))).refused.number in
-    refuses _ _ _ c.if1.true (then_is _ _ (readable (arm r)).none (first_more state read room c.if1.true (numbered c.before)))
+    refuses _ _ _ c.if-refused-ne0.true (then_is _ _ (readable (arm r)).none (first_more state read room c.if-refused-ne0.true (numbered c.before)))
 
 -- ---- nothing is refused so far
 
-module _ (c : tie.Else1) where
-  abbrev read : tie.After-read
+module _ (c : tie.Else-refused-ne0) where
+  abbrev read : tie.After-read-reading
   read = c.before.before
 
   none : (state_number (sheet read) (given read) ≡ 0) × ((read_of (sheet read) (state_of (given read))).refused.number ≡ 0)
-  none = none_of _ _ (sym (numbered c.before) ∙ c.if1.false)
+  none = none_of _ _ (sym (numbered c.before) ∙ c.if-refused-ne0.false)
 
   fitting : state_fits (given read) ≡ true
   fitting = state-fits (sheet read) (given read) none.0
 
-  answered : reading read.read.result ≡ read_of (sheet read) (state_of (given read))
+  answered : reading read.read-reading.result ≡ read_of (sheet read) (state_of (given read))
   answered = told read ∙ ap (λ (f : Frontend). read_of (sheet read) f) (state-read (sheet read) (given read) fitting)
 
   -- so the length of the answer decides
@@ -120,11 +120,11 @@ module _ (c : tie.Else1) where
       (first_number (state_number (sheet read) (given read)) (first_number (read_of (sheet read) (state_of (given read))).refused.number room))
   sized room e = then_is _ _ (readable (arm read)).none (then_is _ _ none.0 (then_is _ _ none.1 e))
 
-returns-2 : tie.Need-returns-2
+returns-2 : tie.Need-returns-then-answer-lt3
 unfolding read_answer
 returns-2 c =
     let l = (start (read c.before)).args.answer.now in
-    let short : ◌≡◌ {A = ℕ} 11 (cond (leb 3 (length l)) 0 11) = rw (lt-leb 3 (length l) c.if2.true) refl in
+    let short : ◌≡◌ {A = ℕ} 11 (cond (leb 3 (length l)) 0 11) = rw (lt-leb 3 (length l) c.if-answer-lt3.true) refl in
     refuses _ _ _ (λ z. absurd (omega arith)) (sized c.before _ short)
 
 -- ---- the three places
@@ -138,37 +138,37 @@ few s f = go (eqb (first_of (state_faults s f)).number 0) refl
     go true e = rw e (omega arith)
     go false e = rw e (omega arith)
 
-small : (c : tie.Else1) → (read c).read.result.symbols ≤ 9223372036854775807
+small : (c : tie.Else-refused-ne0) → (read c).read-reading.result.symbols ≤ 9223372036854775807
 unfolding state_of registers_at
 small c =
     let r = read c in
     let five = (first-at (given r).places (first_fits (readable-state (given r) (fitting c))) 5 (lit< tt)).is in
-    let symbols : r.read.result.symbols ≡ (read_of (sheet r) (state_of (given r))).symbols = ap (λ (a : Read). a.symbols) (answered c) in
+    let symbols : r.read-reading.result.symbols ≡ (read_of (sheet r) (state_of (given r))).symbols = ap (λ (a : Read). a.symbols) (answered c) in
     omega (arith, symbols, few (sheet r) (state_of (given r)), count_small (at (given r).places 5) five)
 
-cast-answer : tie.Need-overflow-cast-answer
+cast-answer : tie.Need-overflow_cast-answer
 cast-answer c = search rules
 
-slice-set-from-answer : tie.Need-slice-set-from-answer
+slice-set-from-answer : tie.Need-bounds-answer-0
 slice-set-from-answer c = search rules
 
-cast-answer-2 : tie.Need-overflow-cast-answer-2
+cast-answer-2 : tie.Need-overflow_cast-answer-in-Sheet
 cast-answer-2 c = search rules
 
-slice-set-from-answer-2 : tie.Need-slice-set-from-answer-2
-slice-set-from-answer-2 c = simp length-set (omega (arith, c.before.before.if2.false))
+slice-set-from-answer-2 : tie.Need-bounds-answer-1
+slice-set-from-answer-2 c = simp length-set (omega (arith, c.before.before.if-answer-lt3.false))
 
-cast-answer-3 : tie.Need-overflow-cast-answer-3
+cast-answer-3 : tie.Need-overflow_cast-answer-in-Sheet-2
 cast-answer-3 c = sfit (omega (arith, small c.before.before.before.before))
 
-slice-set-from-answer-3 : tie.Need-slice-set-from-answer-3
+slice-set-from-answer-3 : tie.Need-bounds-answer-2
 slice-set-from-answer-3 c = search rules
 
-returns-3 : tie.Need-returns-3
+returns-3 : tie.Need-returns-in-Refused
 unfolding read_answer
 returns-3 c = let u = unread c.before in refuses _ _ _ u.some (first-is _ _ u.some u.is)
 
-same_length : tie.Need-same-length
+same_length : tie.Need-shape_of-answer
 same_length c = search rules
 
 -- what three stores leave, once the casts are read back
@@ -178,17 +178,17 @@ stored period gain symbols l p g s long =
     simp (to_z_pos w64 {n = period} (omega arith), to_z_pos w64 {n = gain} (omega arith), to_z_pos w64 {n = symbols} (omega arith))
     (sets-eq (pos period ∷ pos gain ∷ pos symbols ∷ []) l 0 (omega arith))
 
-returns-4 : tie.Need-returns-4
+returns-4 : tie.Need-returns-else-answer-lt3
 unfolding read_answer
 returns-4 c =
     let right = c.before.before.before in
     let passed = right.before in
     let l = (start (read passed)).args.answer.now in
-    let r = (read passed).read.result in
-    let known = c.struct-known3.given in
-    let long : ◌≡◌ {A = ℕ} 0 (cond (leb 3 (length l)) 0 11) = rw (le-leb 3 (length l) right.if2.false) refl in
+    let r = (read passed).read-reading.result in
+    let known = c.struct_known-in-Sheet-2-1.given in
+    let long : ◌≡◌ {A = ℕ} 0 (cond (leb 3 (length l)) 0 11) = rw (le-leb 3 (length l) right.if-answer-lt3.false) refl in
     writes _ _ _ (sized passed _ long)
-    (stored r.period r.gain r.symbols l (search known depth 40) (search known depth 40) (small passed) right.if2.false
+    (stored r.period r.gain r.symbols l (search known depth 40) (search known depth 40) (small passed) right.if-answer-lt3.false
     ∙ ap (λ (a : Read). pos a.period ∷ pos a.gain ∷ pos a.symbols ∷ drop 3 l) (answered passed))
 
 pub read_spec : {M : Type 1} → statement M

@@ -16,67 +16,67 @@ use Rattle.calls.proofs.Answers.{then-state, started-placed}
 use Rattle.calls.proofs.start.Statement.{statement}
 use Rattle.calls.proofs.start.Tie as tie
 
-read-sheet-requires : tie.Need-read-sheet-requires
+read-sheet-requires : tie.Need-read_sheet-requires
 read-sheet-requires c κs = search rules
 
-enum-known-number : tie.Need-enum-known-number
+enum-known-number : tie.Need-enum_known-number
 enum-known-number c = search rules
 
-enum-known-p : tie.Need-enum-known-p
+enum-known-p : tie.Need-enum_known-p
 enum-known-p c = search rules
 
 -- a sheet that cannot be read, and one that can
-unread : (c : tie.After-number) → Unread (sheet_number c.before.before.before.args.sheet.now) c.number.given.0.0
-unread c = sheet-refused _ (sym c.before.before.read-sheet.ensures ∙ c.number.given.1)
+unread : (c : tie.In-Refused-2) → Unread (sheet_number c.before.before.before.args.sheet.now) c.number-1.given.0.0
+unread c = sheet-refused _ (sym c.before.before.read_sheet.ensures ∙ c.number-1.given.1)
 
-readable : (c : tie.After-p) → Sheeted c.before.before.before.args.sheet.now c.p.given.0.0
-readable c = sheet-read _ (sym c.before.before.read-sheet.ensures ∙ c.p.given.1)
+readable : (c : tie.In-Sheet-2) → Sheeted c.before.before.before.args.sheet.now c.p-1.given.0.0
+readable c = sheet-read _ (sym c.before.before.read_sheet.ensures ∙ c.p-1.given.1)
 
-new-requires : tie.Need-new-requires
+new-requires : tie.Need-new-started-requires
 new-requires c κs = search rules
 
-number-requires : tie.Need-number-requires
+number-requires : tie.Need-number-refused-requires
 number-requires c κs = search rules
 
 -- what starting from it answers
-module _ (c : tie.After-new) where
+module _ (c : tie.After-new-started) where
   abbrev answer : Start
   answer = let a = c.before.before.before.before.before.args in start_of (sheet_at a.sheet.now a.h.now a.g.now a.k.now)
 
-  told : started c.new.result ≡ answer
+  told : started c.new-started.result ≡ answer
   told =
       let a = c.before.before.before.before.before.args in
-      c.new.ensures ∙ ap (λ (p : Params). start_of (sheet_of p a.h.now a.g.now a.k.now)) (readable c.before.before).is
+      c.new-started.ensures ∙ ap (λ (p : Params). start_of (sheet_of p a.h.now a.g.now a.k.now)) (readable c.before.before).is
 
 -- its number
-number : (c : tie.After-number2) → c.number2.result ≡ (answer c.before).refused.number
-number c = c.number2.ensures ∙ ap (λ (s : Start). s.refused.number) (told c.before)
+number : (c : tie.After-number-refused) → c.number-refused.result ≡ (answer c.before).refused.number
+number c = c.number-refused.ensures ∙ ap (λ (s : Start). s.refused.number) (told c.before)
 
 -- a number other than 0 leaves the slices as they were
 refuses : (number : ℕ) (written l : Slices) {n : ℕ} → (n ≡ 0 → ⊥) → n ≡ number
     → ◌≡◌ {A = StateAnswer} (record { number = n; state = l }) (state_answered number written l)
 refuses number written l h e = rw (ne_eqb number 0 (λ z. h (e ∙ z))) (λ i. record { number = e i; state = l })
 
-returns : tie.Need-returns
+returns : tie.Need-returns-then-refused-ne0
 unfolding start_answer
 returns c =
     let new = c.before.before in
-    refuses _ _ _ c.if1.true (then_is _ _ (readable new.before.before).none (first-is _ _ c.if1.true (number c.before)))
+    refuses _ _ _ c.if-refused-ne0.true (then_is _ _ (readable new.before.before).none (first-is _ _ c.if-refused-ne0.true (number c.before)))
 
-write-state-requires : tie.Need-write-state-requires
+write-state-requires : tie.Need-write_state-requires
 write-state-requires c κs = search rules
 
-returns-2 : tie.Need-returns-2
+returns-2 : tie.Need-returns-in-Refused
 unfolding start_answer
 returns-2 c = let u = unread c.before in refuses _ _ _ u.some (first-is _ _ u.some u.is)
 
-same_length : tie.Need-same-length
+same_length : tie.Need-shape_of-state
 same_length c = search rules
 
-same-length-2 : tie.Need-same-length-2
+same-length-2 : tie.Need-shape_of-line
 same-length-2 c = search rules
 
-same-length-3 : tie.Need-same-length-3
+same-length-3 : tie.Need-shape_of-errors
 same-length-3 c = search rules
 
 -- its counts have places, so that the lengths of the slices decide
@@ -84,18 +84,18 @@ written : (s : Sheet) (l : Slices) → state_written (start_of s).state l ≡ st
 unfolding state_written
 written s l = rw (started-placed s, and-true (are_long l)) refl
 
-returns-3 : tie.Need-returns-3
+returns-3 : tie.Need-returns-else-refused-ne0
 unfolding start_answer
 returns-3 c =
     let w = c.before.before.before in
     let right = w.before.before.before.before.before in
     let new = right.before.before in
     let a = new.before.before.before.before.before.args in
-    let l = slices a.state.now a.line.now a.errors.now in
-    w.write-state.ensures
+    let l = slices a.state-1.now a.line-1.now a.errors-1.now in
+    w.write_state.ensures
     ∙ ap (λ (s : Start). state_written s.state l) (told new)
     ∙ written _ l
-    ∙ sym (then-state _ _ _ l (sym (number right.before) ∙ right.if1.false))
+    ∙ sym (then-state _ _ _ l (sym (number right.before) ∙ right.if-refused-ne0.false))
     ∙ sym (then-state _ _ _ l (readable new.before.before).none)
 
 pub start_spec : {M : Type 1} → statement M

@@ -5,13 +5,13 @@ use Rattle.design.specs.Design.{good_sps}
 use Rattle.design.proofs.is_good_sps.Statement.{statement}
 use Rattle.design.proofs.is_good_sps.Tie as tie
 
-returns : tie.Need-returns
+returns : tie.Need-returns-then-sps
 unfolding good_sps of_bits
-returns c = simp c.if1.true
+returns c = simp c.if-sps.true
 
-returns-2 : tie.Need-returns-2
+returns-2 : tie.Need-returns
 unfolding good_sps of_bits
-returns-2 c = simp c.if1.false
+returns-2 c = simp c.if-sps.false
 
-pub is-good-sps-spec : {M : Type 1} → statement M
-is-good-sps-spec = tie.close (tie.spec returns returns-2)
+pub is_good_sps_spec : {M : Type 1} → statement M
+is_good_sps_spec = tie.close (tie.spec returns returns-2)

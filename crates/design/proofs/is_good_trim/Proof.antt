@@ -5,13 +5,13 @@ use Rattle.design.specs.Design.{good_trim}
 use Rattle.design.proofs.is_good_trim.Statement.{statement}
 use Rattle.design.proofs.is_good_trim.Tie as tie
 
-returns : tie.Need-returns
+returns : tie.Need-returns-then-trim
 unfolding good_trim of_bits neg
-returns c = simp c.if1.true
+returns c = simp c.if-trim.true
 
-returns-2 : tie.Need-returns-2
+returns-2 : tie.Need-returns
 unfolding good_trim of_bits neg
-returns-2 c = simp c.if1.false
+returns-2 c = simp c.if-trim.false
 
-pub is-good-trim-spec : {M : Type 1} → statement M
-is-good-trim-spec = tie.close (tie.spec returns returns-2)
+pub is_good_trim_spec : {M : Type 1} → statement M
+is_good_trim_spec = tie.close (tie.spec returns returns-2)

@@ -19,23 +19,23 @@ no-faults : (s : Sheet) {v : Verdict} → verdict_refusal v ≡ judged s → v �
 unfolding judged
 no-faults s told is = first-none (faults s) (faults-numbered s) (ap (λ (r : Refusal). r.number) (sym told ∙ ap verdict_refusal is))
 
-validate-requires : tie.Need-validate-requires
+validate-requires : tie.Need-validate-verdict-requires
 validate-requires c κs = search rules
 
-enum-known-verdict : tie.Need-enum-known-verdict
+enum-known-verdict : tie.Need-enum_known-verdict
 enum-known-verdict c = search rules
 
-returns : tie.Need-returns
+returns : tie.Need-returns-in-Refused
 returns c =
     let v = c.before.before.before in
-    let e = c.before.verdict.given in
-    judge-refuses _ _ _ _ (error-numbered e.0.0) (refused {r = judged (sheet v.before)} v.validate.ensures e.1)
+    let e = c.before.verdict-1.given in
+    judge-refuses _ _ _ _ (error-numbered e.0.0) (refused {r = judged (sheet v.before)} v.validate-verdict.ensures e.1)
 
-enum_told : tie.Need-enum-told
+enum_told : tie.Need-enum_told-1
 enum_told c = search rules
 
-returns-2 : tie.Need-returns-2
-returns-2 c = let v = c.before.before in judge-accepts _ _ _ _ (no-faults (sheet v.before) v.validate.ensures c.enum_told.given.1)
+returns-2 : tie.Need-returns
+returns-2 c = let v = c.before.before in judge-accepts _ _ _ _ (no-faults (sheet v.before) v.validate-verdict.ensures c.enum_told-1.given.1)
 
-pub judge-spec : {M : Type 1} → statement M
-judge-spec = tie.close (tie.spec validate-requires enum-known-verdict returns enum_told returns-2)
+pub judge_spec : {M : Type 1} → statement M
+judge_spec = tie.close (tie.spec validate-requires enum-known-verdict returns enum_told returns-2)

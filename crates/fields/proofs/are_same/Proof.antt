@@ -26,20 +26,20 @@ record Signed (p : Params) : Type 0 where
   ki : SFits w16 p.ki
   most : SFits w32 p.integrator_max
 
-first : (c : tie.After-struct-told) → Signed c.before.before.before.before.args.p
+first : (c : tie.After-struct_told-1) → Signed c.before.before.before.before.args.p
 first c = record {
-  nco = record { sfits = search c.struct_told.given depth 40 };
-  kp = record { sfits = search c.struct_told.given depth 40 };
-  ki = record { sfits = search c.struct_told.given depth 40 };
-  most = record { sfits = search c.struct_told.given depth 40 };
+  nco = record { sfits = search c.struct_told-1.given depth 40 };
+  kp = record { sfits = search c.struct_told-1.given depth 40 };
+  ki = record { sfits = search c.struct_told-1.given depth 40 };
+  most = record { sfits = search c.struct_told-1.given depth 40 };
 }
 
-second : (c : tie.After-struct-told2) → Signed c.before.before.before.before.before.before.args.q
+second : (c : tie.After-struct_told-2-1) → Signed c.before.before.before.before.before.before.args.q
 second c = record {
-  nco = record { sfits = search c.struct-told2.given depth 40 };
-  kp = record { sfits = search c.struct-told2.given depth 40 };
-  ki = record { sfits = search c.struct-told2.given depth 40 };
-  most = record { sfits = search c.struct-told2.given depth 40 };
+  nco = record { sfits = search c.struct_told-2-1.given depth 40 };
+  kp = record { sfits = search c.struct_told-2-1.given depth 40 };
+  ki = record { sfits = search c.struct_told-2-1.given depth 40 };
+  most = record { sfits = search c.struct_told-2-1.given depth 40 };
 }
 
 returns : tie.Need-returns
@@ -52,5 +52,5 @@ returns c =
     let p = first t.before.before in
     rw (same_bits _ _ p.nco q.nco, same_bits _ _ p.kp q.kp, same_bits _ _ p.ki q.ki, same_bits _ _ p.most q.most)
 
-pub are-same-spec : {M : Type 1} → statement M
-are-same-spec = tie.close (tie.spec returns)
+pub are_same_spec : {M : Type 1} → statement M
+are_same_spec = tie.close (tie.spec returns)

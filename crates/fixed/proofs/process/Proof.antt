@@ -24,41 +24,41 @@ none-run : (s : Sheet) (f : Frontend) (values out : List ℤ) {r : Refusal} → 
 unfolding block_of
 none-run s f values out h told = rw (not_none told h) (λ i. record { refused = told i; state = f; taken = 0; count = 0; clips = 0; output = out })
 
-check-block-requires : tie.Need-check-block-requires
+check-block-requires : tie.Need-check_block-verdict-requires
 check-block-requires c κs = search rules
 
-enum_told : tie.Need-enum-told
+enum_told : tie.Need-enum_told-1
 enum_told c = search rules
 
-faultless : (c : tie.After-enum-told)
+faultless : (c : tie.In-Accepted)
     → let s = c.before.before.before in
     block_faults (sheet s) s.args.f (length s.args.values.now) (length s.args.out.now) ≡ []
 faultless c =
     let t = c.before.before in
     let s = t.before in
-    passes (block-numbered (sheet s) s.args.f (length s.args.values.now) (length s.args.out.now)) t.check-block.ensures
-    c.enum_told.given.1
+    passes (block-numbered (sheet s) s.args.f (length s.args.values.now) (length s.args.out.now)) t.check_block-verdict.ensures
+    c.enum_told-1.given.1
 
 run-requires : tie.Need-run-requires
 run-requires c κs = faultless c.before
 
-same_length : tie.Need-same-length
+same_length : tie.Need-shape_of-out
 same_length c = search rules
 
-returns : tie.Need-returns
+returns : tie.Need-returns-in-Accepted
 returns c =
     let r = c.before in
     let s = r.before.before.before.before.before in
     runs (sheet s) s.args.f s.args.values.now s.args.out.now (faultless r.before.before) r.run.ensures
 
-returns-2 : tie.Need-returns-2
+returns-2 : tie.Need-returns-in_default
 returns-2 c =
     let t = c.before in
     let s = t.before in
-    none-run (sheet s) s.args.f s.args.values.now s.args.out.now (refuses t.check-block.result c.match.keys2) t.check-block.ensures
+    none-run (sheet s) s.args.f s.args.values.now s.args.out.now (refuses t.check_block-verdict.result c.match.keys2) t.check_block-verdict.ensures
 
-pub process-spec : {M : Type 1} → statement M
-process-spec =
+pub process_spec : {M : Type 1} → statement M
+process_spec =
     tie.close
     (tie.spec
     check-block-requires

@@ -9,7 +9,7 @@ use Rattle.floats.proofs.Narrow.{signed-narrow}
 use Rattle.floats.proofs.cut_i32.Statement.{statement}
 use Rattle.floats.proofs.cut_i32.Tie as tie
 
-cut-i64-requires : tie.Need-cut-i64-requires
+cut-i64-requires : tie.Need-cut_i64-requires
 cut-i64-requires c κs = search rules
 
 clamp-requires : tie.Need-clamp-requires
@@ -23,11 +23,11 @@ value c =
     ∙ ap (λ (z : ℤ). clamp_z z (negsuc 2147483647) (pos 2147483647)) (held w64 cut.result cut.type-inv ∙ cut.ensures)
     ∙ signed-narrow 31 63 (lit≤ tt) c.before.before.args.x
 
-cast-result : tie.Need-overflow-cast-result
+cast-result : tie.Need-overflow_cast-result
 cast-result c = rw (value c) (record { sfits = to_signed_in 31 c.before.before.args.x })
 
 returns : tie.Need-returns
 returns c = to_z-of_z (cast-result c) ∙ value c
 
-pub cut-i32-spec : {M : Type 1} → statement M
-cut-i32-spec = tie.close (tie.spec cut-i64-requires clamp-requires cast-result returns)
+pub cut_i32_spec : {M : Type 1} → statement M
+cut_i32_spec = tie.close (tie.spec cut-i64-requires clamp-requires cast-result returns)

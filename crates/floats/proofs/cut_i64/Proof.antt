@@ -6,26 +6,26 @@ use Rattle.floats.proofs.Ends.{cut-above, cut_below, cut-nan}
 use Rattle.floats.proofs.cut_i64.Statement.{statement}
 use Rattle.floats.proofs.cut_i64.Tie as tie
 
-truncating-f64-to-i64-requires : tie.Need-truncating-f64-to-i64-requires
+truncating-f64-to-i64-requires : tie.Need-truncating_f64_to_i64-requires
 unfolding of_bits neg
-truncating-f64-to-i64-requires c κs = (subst T (sym c.before.if1.true) tt, subst T (sym c.if2.true) tt)
+truncating-f64-to-i64-requires c κs = (subst T (sym c.before.if-x.true) tt, subst T (sym c.if-x-2.true) tt)
 
-returns : tie.Need-returns
+returns : tie.Need-returns-then-x-2
 returns c = search rules
 
-returns-2 : tie.Need-returns-2
+returns-2 : tie.Need-returns-then-x
 unfolding of_bits neg
-returns-2 c = cut-above 63 c.before.before.args.x (subst T (sym c.before.if1.true) tt) (subst (λ (b : Bool). T (not b)) (sym c.if2.false) tt)
+returns-2 c = cut-above 63 c.before.before.args.x (subst T (sym c.before.if-x.true) tt) (subst (λ (b : Bool). T (not b)) (sym c.if-x-2.false) tt)
 
-returns-3 : tie.Need-returns-3
+returns-3 : tie.Need-returns-then-x-3
 unfolding of_bits neg
-returns-3 c = cut_below 63 c.before.before.args.x (subst (λ (b : Bool). T (not b)) (sym c.before.if1.false) tt) (subst T (sym c.if3.true) tt)
+returns-3 c = cut_below 63 c.before.before.args.x (subst (λ (b : Bool). T (not b)) (sym c.before.if-x.false) tt) (subst T (sym c.if-x-3.true) tt)
 
-returns-4 : tie.Need-returns-4
+returns-4 : tie.Need-returns
 unfolding of_bits neg
 returns-4 c =
-    cut-nan 63 c.before.before.args.x (subst (λ (b : Bool). T (not b)) (sym c.before.if1.false) tt)
-    (subst (λ (b : Bool). T (not b)) (sym c.if3.false) tt)
+    cut-nan 63 c.before.before.args.x (subst (λ (b : Bool). T (not b)) (sym c.before.if-x.false) tt)
+    (subst (λ (b : Bool). T (not b)) (sym c.if-x-3.false) tt)
 
-pub cut-i64-spec : {M : Type 1} → statement M
-cut-i64-spec = tie.close (tie.spec truncating-f64-to-i64-requires returns returns-2 returns-3 returns-4)
+pub cut_i64_spec : {M : Type 1} → statement M
+cut_i64_spec = tie.close (tie.spec truncating-f64-to-i64-requires returns returns-2 returns-3 returns-4)

@@ -9,7 +9,7 @@ use Rattle.floats.proofs.Narrow.{unsigned-narrow}
 use Rattle.floats.proofs.cut_u32.Statement.{statement}
 use Rattle.floats.proofs.cut_u32.Tie as tie
 
-cut-i64-requires : tie.Need-cut-i64-requires
+cut-i64-requires : tie.Need-cut_i64-requires
 cut-i64-requires c κs = search rules
 
 clamp-requires : tie.Need-clamp-requires
@@ -23,11 +23,11 @@ value c =
     ∙ ap (λ (z : ℤ). clamp_z z (pos 0) (pos 4294967295)) (held w64 cut.result cut.type-inv ∙ cut.ensures)
     ∙ unsigned-narrow 32 63 (lit≤ tt) c.before.before.args.x
 
-cast-result : tie.Need-overflow-cast-result
+cast-result : tie.Need-overflow_cast-result
 cast-result c = rw (value c) (tt, record { fits = to_unsigned-lt 32 c.before.before.args.x })
 
 returns : tie.Need-returns
 returns c = ap nat_abs (value c)
 
-pub cut-u32-spec : {M : Type 1} → statement M
-cut-u32-spec = tie.close (tie.spec cut-i64-requires clamp-requires cast-result returns)
+pub cut_u32_spec : {M : Type 1} → statement M
+cut_u32_spec = tie.close (tie.spec cut-i64-requires clamp-requires cast-result returns)

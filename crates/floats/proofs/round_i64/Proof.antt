@@ -12,61 +12,61 @@ use Rattle.floats.proofs.round_i64.Tie as tie
 
 -- ---- large, or no number
 
-cut-i64-requires : tie.Need-cut-i64-requires
+cut-i64-requires : tie.Need-cut_i64-requires
 cut-i64-requires c κs = search rules
 
-returns : tie.Need-returns
+returns : tie.Need-returns-then-not-x
 unfolding of_bits neg
 returns c =
     let s = c.before.before in
-    held w64 c.cut-i64.result c.cut-i64.type-inv
-    ∙ c.cut-i64.ensures
-    ∙ stays-below s.args.x (subst T (sym s.well-formed.0.1) tt) (subst T (sym c.before.if1.true) tt)
+    held w64 c.cut_i64.result c.cut_i64.type-inv
+    ∙ c.cut_i64.ensures
+    ∙ stays-below s.args.x (subst T (sym s.well-formed.0.1) tt) (subst T (sym c.before.if-not-x.true) tt)
 
-cut-i64-requires-2 : tie.Need-cut-i64-requires-2
+cut-i64-requires-2 : tie.Need-cut_i64-requires-then-not-x-2
 cut-i64-requires-2 c κs = search rules
 
-returns-2 : tie.Need-returns-2
+returns-2 : tie.Need-returns-then-not-x-2
 unfolding of_bits neg
 returns-2 c =
     let s = c.before.before.before in
-    held w64 c.cut-i642.result c.cut-i642.type-inv
-    ∙ c.cut-i642.ensures
-    ∙ stays-above s.args.x (subst T (sym s.well-formed.0.1) tt) (subst T (sym c.before.if2.true) tt)
+    held w64 c.cut_i64-then-not-x-2.result c.cut_i64-then-not-x-2.type-inv
+    ∙ c.cut_i64-then-not-x-2.ensures
+    ∙ stays-above s.args.x (subst T (sym s.well-formed.0.1) tt) (subst T (sym c.before.if-not-x-2.true) tt)
 
 -- ---- between -2^62 and 2^62
 
 -- the two tests say that doubling is exact
-halved : (c : tie.Else2) → Halved c.before.before.args.x
+halved : (c : tie.Else-not-x-2) → Halved c.before.before.args.x
 unfolding of_bits neg
 halved c =
     let s = c.before.before in
     let x = s.args.x in
-    halved_of x (subst T (sym s.well-formed.0.1) tt) (subst T (sym (not-false (lt (bottom 62) x) c.before.if1.false)) tt)
-    (subst T (sym (not-false (lt x (top 62)) c.if2.false)) tt)
+    halved_of x (subst T (sym s.well-formed.0.1) tt) (subst T (sym (not-false (lt (bottom 62) x) c.before.if-not-x.false)) tt)
+    (subst T (sym (not-false (lt x (top 62)) c.if-not-x-2.false)) tt)
 
-truncating-f64-to-i64-requires : tie.Need-truncating-f64-to-i64-requires
+truncating-f64-to-i64-requires : tie.Need-truncating_f64_to_i64-twice-requires
 truncating-f64-to-i64-requires c κs = ((halved c).doubled.low, (halved c).doubled.high)
 
 -- what the code halves
-twice : (c : tie.After-truncating-f64-to-i64)
-    → to_z w64 (of_z w64 c.truncating-f64-to-i64.result) ≡ signed (halved c.before).sign (halved c.before).twice
-twice c = held w64 c.truncating-f64-to-i64.result c.truncating-f64-to-i64.type-inv ∙ c.truncating-f64-to-i64.ensures ∙ (halved c.before).doubled.cut
+twice : (c : tie.After-truncating_f64_to_i64-twice)
+    → to_z w64 (of_z w64 c.truncating_f64_to_i64-twice.result) ≡ signed (halved c.before).sign (halved c.before).twice
+twice c = held w64 c.truncating_f64_to_i64-twice.result c.truncating_f64_to_i64-twice.type-inv ∙ c.truncating_f64_to_i64-twice.ensures ∙ (halved c.before).doubled.cut
 
-div-result : tie.Need-nonzero-div-result
+div-result : tie.Need-nonzero_div-result
 div-result c = let h = halved c.before in (lit< tt, quotient_fits h.sign h.twice h.small (twice c))
 
-rem-result : tie.Need-nonzero-rem-result
+rem-result : tie.Need-nonzero_rem-result
 rem-result c = div-result c
 
-add-result : tie.Need-overflow-add-result
+add-result : tie.Need-overflow_add-result
 add-result c = let h = halved c.before in half-fits h.sign h.twice h.small (half_of h.sign h.twice h.small (twice c))
 
-returns-3 : tie.Need-returns-3
+returns-3 : tie.Need-returns
 returns-3 c = let h = halved c.before in to_z-of_z (add-result c) ∙ half_of h.sign h.twice h.small (twice c) ∙ h.nearest
 
-pub round-i64-spec : {M : Type 1} → statement M
-round-i64-spec =
+pub round_i64_spec : {M : Type 1} → statement M
+round_i64_spec =
     tie.close
     (tie.spec
     cut-i64-requires

@@ -10,7 +10,7 @@ use Rattle.floats.proofs.Narrow.{unsigned-narrow}
 use Rattle.floats.proofs.round_u32.Statement.{statement}
 use Rattle.floats.proofs.round_u32.Tie as tie
 
-round-i64-requires : tie.Need-round-i64-requires
+round-i64-requires : tie.Need-round_i64-requires
 round-i64-requires c κs = search rules
 
 clamp-requires : tie.Need-clamp-requires
@@ -24,11 +24,11 @@ value c =
     ∙ ap (λ (z : ℤ). clamp_z z (pos 0) (pos 4294967295)) (held w64 away.result away.type-inv ∙ away.ensures)
     ∙ unsigned-narrow 32 63 (lit≤ tt) (round_away c.before.before.args.x)
 
-cast-result : tie.Need-overflow-cast-result
+cast-result : tie.Need-overflow_cast-result
 cast-result c = rw (value c) (tt, record { fits = to_unsigned-lt 32 (round_away c.before.before.args.x) })
 
 returns : tie.Need-returns
 returns c = ap nat_abs (value c)
 
-pub round-u32-spec : {M : Type 1} → statement M
-round-u32-spec = tie.close (tie.spec round-i64-requires clamp-requires cast-result returns)
+pub round_u32_spec : {M : Type 1} → statement M
+round_u32_spec = tie.close (tie.spec round-i64-requires clamp-requires cast-result returns)

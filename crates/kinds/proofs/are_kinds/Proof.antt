@@ -13,52 +13,52 @@ use Rattle.kinds.proofs.OfKind.{too_few, SoFar, so-far-none, so-far-step, so-far
 use Rattle.kinds.proofs.are_kinds.Statement.{statement}
 use Rattle.kinds.proofs.are_kinds.Tie as tie
 
-abbrev invariant-loop : tie.invariant-loop
+abbrev invariant-loop : tie.invariant-loop-n
 invariant-loop kinds places good₀ n₀ good n = SoFar kinds places good n
 
-abbrev decreases-loop : tie.decreases-loop
+abbrev decreases-loop : tie.decreases-loop-n
 decreases-loop kinds places good₀ n₀ good n = length kinds - n
 
-returns : tie.Need-returns invariant-loop decreases-loop
-returns c = sym (too_few _ _ c.if1.true)
+returns : tie.Need-returns-then-places-kinds invariant-loop decreases-loop
+returns c = sym (too_few _ _ c.if-places-kinds.true)
 
-loop-holds : tie.Need-loop-init invariant-loop decreases-loop
+loop-holds : tie.Need-loop-n-init invariant-loop decreases-loop
 loop-holds c = so-far-none _ _
 
-shared-slice-read-is-kind : tie.Need-shared-slice-read-is-kind invariant-loop decreases-loop
+shared-slice-read-is-kind : tie.Need-bounds-kinds-n invariant-loop decreases-loop
 shared-slice-read-is-kind c = search rules
 
-mul-is-kind : tie.Need-overflow-mul-is-kind invariant-loop decreases-loop
+mul-is-kind : tie.Need-offset_bounds-places-n invariant-loop decreases-loop
 mul-is-kind c = search rules
 
-shared-slice-copy-out-is-kind : tie.Need-shared-slice-copy-out-is-kind invariant-loop decreases-loop
+shared-slice-copy-out-is-kind : tie.Need-bounds-places-n invariant-loop decreases-loop
 shared-slice-copy-out-is-kind c = search rules
 
-is-kind-requires : tie.Need-is-kind-requires invariant-loop decreases-loop
+is-kind-requires : tie.Need-is_kind-requires invariant-loop decreases-loop
 is-kind-requires c κs = search rules
 
-both-requires : tie.Need-both-requires invariant-loop decreases-loop
+both-requires : tie.Need-both-good-requires invariant-loop decreases-loop
 both-requires c κs = search rules
 
-add-n : tie.Need-overflow-add-n invariant-loop decreases-loop
+add-n : tie.Need-overflow_add-n invariant-loop decreases-loop
 add-n c = search rules
 
-loop-less : tie.Need-loop-smaller invariant-loop decreases-loop
+loop-less : tie.Need-loop-n-smaller invariant-loop decreases-loop
 loop-less c = search rules
 
-loop-again : tie.Need-loop-preserved invariant-loop decreases-loop
+loop-again : tie.Need-loop-n-preserved invariant-loop decreases-loop
 loop-again c =
     let k = c.before in
     let a = k.before.before.before.before.before.before.before.args in
     let l = k.before.before.before.before.loop in
-    let is = simp (held w64 (at a.places.now l.n) (search rules)) at k.is-kind.ensures in
-    so-far-step a.kinds.now a.places.now l.invariant (omega arith) (omega arith) (c.both.ensures ∙ ap (λ (t : Bool). l.good && t) is)
+    let is = simp (held w64 (at a.places.now l.n) (search rules)) at k.is_kind.ensures in
+    so-far-step a.kinds.now a.places.now l.invariant (omega arith) (omega arith) (c.both-good.ensures ∙ ap (λ (t : Bool). l.good && t) is)
 
-returns-2 : tie.Need-returns-2 invariant-loop decreases-loop
-returns-2 c = so-far-all _ _ c.before.loop.invariant (omega arith)
+returns-2 : tie.Need-returns invariant-loop decreases-loop
+returns-2 c = so-far-all _ _ c.before.loop-n.invariant (omega arith)
 
-pub are-kinds-spec : {M : Type 1} → statement M
-are-kinds-spec =
+pub are_kinds_spec : {M : Type 1} → statement M
+are_kinds_spec =
     tie.close
     (tie.spec
     invariant-loop

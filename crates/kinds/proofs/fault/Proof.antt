@@ -6,24 +6,24 @@ use Rattle.kinds.specs.Kinds.{places_number}
 use Rattle.kinds.proofs.fault.Statement.{statement}
 use Rattle.kinds.proofs.fault.Tie as tie
 
-returns : tie.Need-returns
+returns : tie.Need-returns-then-places-kinds
 unfolding places_number
-returns c = rw (ne_eqb _ _ c.if1.true) refl
+returns c = rw (ne_eqb _ _ c.if-places-kinds.true) refl
 
-are-kinds-requires : tie.Need-are-kinds-requires
+are-kinds-requires : tie.Need-are_kinds-requires
 are-kinds-requires c κs = search rules
 
-returns-2 : tie.Need-returns-2
+returns-2 : tie.Need-returns-then-not-are_kinds
 unfolding places_number
 returns-2 c =
     let tested = c.before in
-    rw (eq-eqb _ _ tested.before.if1.false, sym tested.are-kinds.ensures ∙ not-true tested.are-kinds.result c.if2.true) refl
+    rw (eq-eqb _ _ tested.before.if-places-kinds.false, sym tested.are_kinds.ensures ∙ not-true tested.are_kinds.result c.if-not-are_kinds.true) refl
 
-returns-3 : tie.Need-returns-3
+returns-3 : tie.Need-returns
 unfolding places_number
 returns-3 c =
     let tested = c.before in
-    rw (eq-eqb _ _ tested.before.if1.false, sym tested.are-kinds.ensures ∙ not-false tested.are-kinds.result c.if2.false) refl
+    rw (eq-eqb _ _ tested.before.if-places-kinds.false, sym tested.are_kinds.ensures ∙ not-false tested.are_kinds.result c.if-not-are_kinds.false) refl
 
-pub fault-spec : {M : Type 1} → statement M
-fault-spec = tie.close (tie.spec returns are-kinds-requires returns-2 returns-3)
+pub fault_spec : {M : Type 1} → statement M
+fault_spec = tie.close (tie.spec returns are-kinds-requires returns-2 returns-3)

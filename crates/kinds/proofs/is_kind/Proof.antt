@@ -10,10 +10,10 @@ use Rattle.kinds.specs.Kinds.{is_kind}
 use Rattle.kinds.proofs.is_kind.Statement.{statement}
 use Rattle.kinds.proofs.is_kind.Tie as tie
 
-least-of-requires : tie.Need-least-of-requires
+least-of-requires : tie.Need-least_of-requires
 least-of-requires c κs = search rules
 
-most-of-requires : tie.Need-most-of-requires
+most-of-requires : tie.Need-most_of-requires
 most-of-requires c κs = search rules
 
 both-requires : tie.Need-both-requires
@@ -28,5 +28,5 @@ returns c =
     let told = simp (held w64 v (search rules), held w64 least.result least.type-inv, held w64 most.result most.type-inv) at c.both.ensures in
     told ∙ (λ t. le_z (least.ensures t) v && le_z v (most.ensures t))
 
-pub is-kind-spec : {M : Type 1} → statement M
-is-kind-spec = tie.close (tie.spec least-of-requires most-of-requires both-requires returns)
+pub is_kind_spec : {M : Type 1} → statement M
+is_kind_spec = tie.close (tie.spec least-of-requires most-of-requires both-requires returns)

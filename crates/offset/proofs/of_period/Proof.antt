@@ -45,40 +45,40 @@ sheet-passed s period j e =
 passed : {v : Verdict} {r : Refusal} → verdict_refusal v ≡ r → v ≡ Accepted → r ≡ nothing
 passed told is = sym told ∙ ap verdict_refusal is
 
-validate-requires : tie.Need-validate-requires
+validate-requires : tie.Need-validate-verdict-requires
 validate-requires c κs = search rules
 
-enum-known-verdict : tie.Need-enum-known-verdict
+enum-known-verdict : tie.Need-enum_known-verdict
 enum-known-verdict c = search rules
 
-returns : tie.Need-returns
+returns : tie.Need-returns-in-Refused
 returns c =
-    let e = c.before.verdict.given in
-    sheet-refused _ _ (error-numbered e.0.0) (refused c.before.before.before.validate.ensures e.1)
+    let e = c.before.verdict-1.given in
+    sheet-refused _ _ (error-numbered e.0.0) (refused c.before.before.before.validate-verdict.ensures e.1)
 
-enum_told : tie.Need-enum-told
+enum_told : tie.Need-enum_told-1
 enum_told c = search rules
 
-is-within-requires : tie.Need-is-within-requires
+is-within-requires : tie.Need-is_within-requires
 is-within-requires c κs = search rules
 
-returns-2 : tie.Need-returns-2
+returns-2 : tie.Need-returns-then-not-is_within
 returns-2 c =
     let v = c.before.before in
-    sheet-passed _ _ (passed v.before.before.validate.ensures v.enum_told.given.1) (sym c.before.is_Within.ensures ∙ not-true _ c.if1.true)
+    sheet-passed _ _ (passed v.before.before.validate-verdict.ensures v.enum_told-1.given.1) (sym c.before.is_Within.ensures ∙ not-true _ c.if-not-is_within.true)
 
-parts-of-requires : tie.Need-parts-of-requires
+parts-of-requires : tie.Need-parts_of-requires
 parts-of-requires c κs = search rules
 
-returns-3 : tie.Need-returns-3
+returns-3 : tie.Need-returns
 returns-3 c =
     let v = c.before.before.before in
-    ap (λ (z : ℤ). record { refused = nothing; parts = z }) (held w64 c.parts-of.result c.parts-of.type-inv ∙ c.parts-of.ensures)
-    ∙ sheet-passed _ _ (passed v.before.before.validate.ensures v.enum_told.given.1) (sym c.before.before.is_Within.ensures
-    ∙ not-false _ c.before.if1.false)
+    ap (λ (z : ℤ). record { refused = nothing; parts = z }) (held w64 c.parts_of.result c.parts_of.type-inv ∙ c.parts_of.ensures)
+    ∙ sheet-passed _ _ (passed v.before.before.validate-verdict.ensures v.enum_told-1.given.1) (sym c.before.before.is_Within.ensures
+    ∙ not-false _ c.before.if-not-is_within.false)
 
-pub of-period-spec : {M : Type 1} → statement M
-of-period-spec =
+pub of_period_spec : {M : Type 1} → statement M
+of_period_spec =
     tie.close
     (tie.spec
     validate-requires

@@ -28,37 +28,37 @@ read a b f g = simp (whole a f, whole b g)
 subtracted : (a b : ℕ) → Fits w32 a → Fits w32 b → to_z w64 (of_z w64 (to_z w64 a -ℤ to_z w64 b)) ≡ pos a -ℤ pos b
 subtracted a b f g = simp (read a b f g, to_z-of_z (difference-fits a b f g))
 
-cast-longer : tie.Need-overflow-cast-longer
+cast-longer : tie.Need-overflow_cast-longer
 cast-longer c = search rules
 
-cast-longer-2 : tie.Need-overflow-cast-longer-2
+cast-longer-2 : tie.Need-overflow_cast-longer-2
 cast-longer-2 c = search rules
 
-sub-longer : tie.Need-overflow-sub-longer
+sub-longer : tie.Need-overflow_sub-longer
 sub-longer c =
-    let f = c.struct_known.given.1.1.0 in
+    let f = c.struct_known-1.given.1.1.0 in
     let g = c.before.ranges.period in
     rw (read _ _ f g) (difference-fits _ _ f g)
 
-mul-divide-nearest : tie.Need-overflow-mul-divide-nearest
+mul-divide-nearest : tie.Need-overflow_mul-longer
 mul-divide-nearest c =
-    let f = c.struct_known.given.1.1.0 in
+    let f = c.struct_known-1.given.1.1.0 in
     let g = c.before.ranges.period in
     rw (subtracted _ _ f g) (product-fits _ _ f g)
 
-divide-nearest-requires : tie.Need-divide-nearest-requires
+divide-nearest-requires : tie.Need-divide_nearest-requires
 divide-nearest-requires c κs = search rules
 
 returns : tie.Need-returns
 unfolding parts_of
 returns c =
-    let f = c.before.struct_known.given.1.1.0 in
+    let f = c.before.struct_known-1.given.1.1.0 in
     let g = c.before.before.ranges.period in
-    let told : c.divide-nearest.result ≡ _ = simp (subtracted _ _ f g, to_z-of_z (product-fits _ _ f g)) at c.divide-nearest.ensures in
-    held w64 c.divide-nearest.result c.divide-nearest.type-inv ∙ told
+    let told : c.divide_nearest.result ≡ _ = simp (subtracted _ _ f g, to_z-of_z (product-fits _ _ f g)) at c.divide_nearest.ensures in
+    held w64 c.divide_nearest.result c.divide_nearest.type-inv ∙ told
 
-pub parts-of-spec : {M : Type 1} → statement M
-parts-of-spec =
+pub parts_of_spec : {M : Type 1} → statement M
+parts_of_spec =
     tie.close
     (tie.spec
     cast-longer

@@ -3,11 +3,11 @@ use borrow.Author.Tests.{lt-ltb, le-ltb}
 use Rattle.print.proofs.behind.Statement.{statement}
 use Rattle.print.proofs.behind.Tie as tie
 
-returns : tie.Need-returns
-returns c = simp (lt-ltb _ _ c.if1.true)
+returns : tie.Need-returns-then-n-count
+returns c = simp (lt-ltb _ _ c.if-n-count.true)
 
-returns-2 : tie.Need-returns-2
-returns-2 c = simp (le-ltb _ _ c.if1.false)
+returns-2 : tie.Need-returns
+returns-2 c = simp (le-ltb _ _ c.if-n-count.false)
 
-pub behind-spec : {M : Type 1} → statement M
-behind-spec = tie.close (tie.spec returns returns-2)
+pub behind_spec : {M : Type 1} → statement M
+behind_spec = tie.close (tie.spec returns returns-2)

@@ -32,39 +32,39 @@ magnitude-up : (z : ℤ) → le_z (pos 0) z ≡ true → nat_abs z ≡ magnitude
 magnitude-up (pos n) t = refl
 magnitude-up (negsuc n) t = absurd (false≢true t)
 
-negative : (c : tie.Else1) → le_z (pos 0) c.before.args.z ≡ false
-negative c = subst (λ (y : ℤ). le_z (pos 0) y ≡ false) (to_z-of_z c.before.ranges.z) c.if1.false
+negative : (c : tie.Else-z-ge0) → le_z (pos 0) c.before.args.z ≡ false
+negative c = subst (λ (y : ℤ). le_z (pos 0) y ≡ false) (to_z-of_z c.before.ranges.z) c.if-z-ge0.false
 
-less : (c : tie.Else1) → negsuc 0 -ℤ to_z w64 (of_z w64 c.before.args.z) ≡ pos (mag c.before.args.z)
+less : (c : tie.Else-z-ge0) → negsuc 0 -ℤ to_z w64 (of_z w64 c.before.args.z) ≡ pos (mag c.before.args.z)
 less c = ap (λ (y : ℤ). negsuc 0 -ℤ y) (to_z-of_z c.before.ranges.z) ∙ (below-zero c.before.args.z (negative c)).0
 
-cast-result : tie.Need-overflow-cast-result
+cast-result : tie.Need-overflow_cast-result
 cast-result c =
     let k = to_z-of_z c.before.ranges.z in
     subst (λ (y : ℤ). T (non_neg y) × Fits w64 (nat_abs y)) (sym k)
-    (not_negative c.before.args.z c.before.ranges.z (subst (λ (y : ℤ). le_z (pos 0) y ≡ true) k c.if1.true))
+    (not_negative c.before.args.z c.before.ranges.z (subst (λ (y : ℤ). le_z (pos 0) y ≡ true) k c.if-z-ge0.true))
 
-sub-result : tie.Need-overflow-sub-result
+sub-result : tie.Need-overflow_sub-result
 sub-result c = subst (λ (z : ℤ). SFits w64 z) (sym (less c)) (record { sfits = c.before.ranges.z.sfits })
 
-less-read : (c : tie.Else1) → to_z w64 (of_z w64 (negsuc 0 -ℤ to_z w64 (of_z w64 c.before.args.z))) ≡ pos (mag c.before.args.z)
+less-read : (c : tie.Else-z-ge0) → to_z w64 (of_z w64 (negsuc 0 -ℤ to_z w64 (of_z w64 c.before.args.z))) ≡ pos (mag c.before.args.z)
 less-read c = to_z-of_z (sub-result c) ∙ less c
 
-cast-result-2 : tie.Need-overflow-cast-result-2
+cast-result-2 : tie.Need-overflow_cast-result-2
 cast-result-2 c = subst (λ (y : ℤ). T (non_neg y) × Fits w64 (nat_abs y)) (sym (less-read c))
     (tt, record { fits = lt_of_lt_of_le c.before.ranges.z.sfits (lit≤ tt) })
 
-add-result : tie.Need-overflow-add-result
+add-result : tie.Need-overflow_add-result
 add-result c = subst (λ (y : ℤ). Fits w64 (nat_abs y + 1)) (sym (less-read c)) (record { fits = omega (arith, c.before.ranges.z.sfits) })
 
-returns : tie.Need-returns
+returns : tie.Need-returns-then-z-ge0
 returns c =
     let k = to_z-of_z c.before.ranges.z in
-    ap nat_abs k ∙ magnitude-up c.before.args.z (subst (λ (y : ℤ). le_z (pos 0) y ≡ true) k c.if1.true)
+    ap nat_abs k ∙ magnitude-up c.before.args.z (subst (λ (y : ℤ). le_z (pos 0) y ≡ true) k c.if-z-ge0.true)
 
-returns-2 : tie.Need-returns-2
+returns-2 : tie.Need-returns
 returns-2 c = ap (λ (y : ℤ). nat_abs y + 1) (less-read c) ∙ sym (below-zero c.before.args.z (negative c)).1
 
-pub magnitude-spec : {M : Type 1} → statement M
-magnitude-spec =
+pub magnitude_spec : {M : Type 1} → statement M
+magnitude_spec =
     tie.close (tie.spec cast-result returns sub-result cast-result-2 add-result returns-2)

@@ -11,38 +11,38 @@ use lib.Seq.{sets, drop-cons}
 use Rattle.print.proofs.put_bytes.Statement.{statement}
 use Rattle.print.proofs.put_bytes.Tie as tie
 
-abbrev invariant-loop : tie.invariant-loop
+abbrev invariant-loop : tie.invariant-loop-i
 invariant-loop s out₀ at i₀ out i = (length out ≡ length out₀) × (i ≤ length s) × (sets out₀ at s ≡ sets out (at + i) (drop i s))
 
-abbrev decreases-loop : tie.decreases-loop
+abbrev decreases-loop : tie.decreases-loop-i
 decreases-loop s out₀ at i₀ out i = length s - i
 
-loop-holds : tie.Need-loop-init invariant-loop decreases-loop
+loop-holds : tie.Need-loop-i-init invariant-loop decreases-loop
 loop-holds c =
     let a = c.args in
     (refl, omega arith, ap (λ (k : ℕ). sets a.out.now k a.s.now) (sym (add-zero a.at)))
 
-shared-slice-read-out : tie.Need-shared-slice-read-out invariant-loop decreases-loop
+shared-slice-read-out : tie.Need-bounds-s-i invariant-loop decreases-loop
 shared-slice-read-out c = omega arith
 
-add-out : tie.Need-overflow-add-out invariant-loop decreases-loop
+add-out : tie.Need-overflow_add-out invariant-loop decreases-loop
 add-out c = omega arith
 
-slice-write-out : tie.Need-slice-write-out invariant-loop decreases-loop
+slice-write-out : tie.Need-bounds-out-at invariant-loop decreases-loop
 slice-write-out c = omega arith
 
-add-i : tie.Need-overflow-add-i invariant-loop decreases-loop
+add-i : tie.Need-overflow_add-i invariant-loop decreases-loop
 add-i c = omega arith
 
-loop-less : tie.Need-loop-smaller invariant-loop decreases-loop
+loop-less : tie.Need-loop-i-smaller invariant-loop decreases-loop
 loop-less c = omega arith
 
-loop-again : tie.Need-loop-preserved invariant-loop decreases-loop
+loop-again : tie.Need-loop-i-preserved invariant-loop decreases-loop
 loop-again c =
     let l = c.before.before.loop in
     let a = c.before.before.before.args in
     let s = a.s.now in
-    let h : l.i < length s = c.before.loop-test.true in
+    let h : l.i < length s = c.before.loop-i-test.true in
     let e : suc (a.at + l.i) ≡ a.at + (l.i + 1) = omega arith in (
       simp length-set (omega arith),
       omega arith,
@@ -52,10 +52,10 @@ loop-again c =
           ∙ ap (λ (k : ℕ). sets (set l.out (a.at + l.i) (get_or s l.i 0)) (a.at + (l.i + 1)) (drop k s)) (sym (add-one l.i)),
     )
 
-add-result : tie.Need-overflow-add-result invariant-loop decreases-loop
+add-result : tie.Need-overflow_add-result invariant-loop decreases-loop
 add-result c = omega arith
 
-same_length : tie.Need-same-length invariant-loop decreases-loop
+same_length : tie.Need-shape_of-out invariant-loop decreases-loop
 same_length c = omega arith
 
 returns : tie.Need-returns invariant-loop decreases-loop
@@ -63,11 +63,11 @@ returns c =
     let l = c.before.loop in
     let a = c.before.before.args in
     let s = a.s.now in
-    let h : length s ≤ l.i = c.loop-test.false in
+    let h : length s ≤ l.i = c.loop-i-test.false in
     record { end = omega arith; bytes = sym (l.invariant.2 ∙ ap (λ (r : List ℕ). sets l.out (a.at + l.i) r) (drop_of_length-le s h)) }
 
-pub put-bytes-spec : {M : Type 1} → statement M
-put-bytes-spec =
+pub put_bytes_spec : {M : Type 1} → statement M
+put_bytes_spec =
     tie.close
     (tie.spec
     invariant-loop

@@ -13,10 +13,10 @@ use Rattle.print.proofs.Writing as W
 use Rattle.print.proofs.put_digits.Statement.{statement}
 use Rattle.print.proofs.put_digits.Tie as tie
 
-abbrev invariant-loop : tie.invariant-loop
+abbrev invariant-loop : tie.invariant-loop-i
 invariant-loop n out₀ at k i₀ v₀ out i v = (length out ≡ length out₀) × (i ≤ k) × (sets out₀ at (last_digits k n) ≡ sets out at (last_digits i v))
 
-abbrev decreases-loop : tie.decreases-loop
+abbrev decreases-loop : tie.decreases-loop-i
 decreases-loop n out₀ at k i₀ v₀ out i v = i
 
 -- One digit, and two: g and h are those of what is left.
@@ -56,77 +56,77 @@ put n k at out left e s = record {
   bytes = sym (ap (λ (d : List ℕ). sets out at d) e ∙ s);
 }
 
-width-requires : tie.Need-width-requires invariant-loop decreases-loop
+width-requires : tie.Need-width-k-requires invariant-loop decreases-loop
 width-requires c κs = tt
 
-loop-holds : tie.Need-loop-init invariant-loop decreases-loop
+loop-holds : tie.Need-loop-i-init invariant-loop decreases-loop
 loop-holds c = (refl, omega arith, refl)
 
-sub-i : tie.Need-overflow-sub-i invariant-loop decreases-loop
+sub-i : tie.Need-overflow_sub-i invariant-loop decreases-loop
 sub-i c = omega arith
 
 glyph-requires : tie.Need-glyph-requires invariant-loop decreases-loop
 glyph-requires c κs = omega arith
 
-add-out : tie.Need-overflow-add-out invariant-loop decreases-loop
+add-out : tie.Need-overflow_add-out invariant-loop decreases-loop
 add-out c = omega arith
 
-add-out-2 : tie.Need-overflow-add-out-2 invariant-loop decreases-loop
+add-out-2 : tie.Need-overflow_add-out-in-loop-i invariant-loop decreases-loop
 add-out-2 c = omega arith
 
-slice-write-out : tie.Need-slice-write-out invariant-loop decreases-loop
+slice-write-out : tie.Need-bounds-out-at invariant-loop decreases-loop
 slice-write-out c = omega arith
 
-glyph-requires-2 : tie.Need-glyph-requires-2 invariant-loop decreases-loop
+glyph-requires-2 : tie.Need-glyph-requires-in-loop-i invariant-loop decreases-loop
 glyph-requires-2 c κs = omega arith
 
-add-out-3 : tie.Need-overflow-add-out-3 invariant-loop decreases-loop
+add-out-3 : tie.Need-overflow_add-out-in-loop-i-2 invariant-loop decreases-loop
 add-out-3 c = omega arith
 
-slice-write-out-2 : tie.Need-slice-write-out-2 invariant-loop decreases-loop
+slice-write-out-2 : tie.Need-bounds-out-at-in-loop-i invariant-loop decreases-loop
 slice-write-out-2 c = simp length-set (omega arith)
 
-loop-less : tie.Need-loop-smaller invariant-loop decreases-loop
+loop-less : tie.Need-loop-i-smaller invariant-loop decreases-loop
 loop-less c = omega arith
 
-loop-again : tie.Need-loop-preserved invariant-loop decreases-loop
+loop-again : tie.Need-loop-i-preserved invariant-loop decreases-loop
 loop-again c =
     let l = c.before.before.before.loop in
     let a = c.before.before.before.before.before.before.args in
-    let last = two l.out a.at l.i l.v c.before.glyph.result c.glyph2.result c.before.before.loop-test.true
-    c.before.glyph.ensures c.glyph2.ensures in
+    let last = two l.out a.at l.i l.v c.before.glyph.result c.glyph-in-loop-i.result c.before.before.loop-i-test.true
+    c.before.glyph.ensures c.glyph-in-loop-i.ensures in
     (simp length-set (omega arith), omega arith, l.invariant.2 ∙ last)
 
-glyph-requires-3 : tie.Need-glyph-requires-3 invariant-loop decreases-loop
+glyph-requires-3 : tie.Need-glyph-requires-then-i-gt0 invariant-loop decreases-loop
 glyph-requires-3 c κs = omega arith
 
-slice-write-out-3 : tie.Need-slice-write-out-3 invariant-loop decreases-loop
+slice-write-out-3 : tie.Need-bounds-out-at-then-i-gt0 invariant-loop decreases-loop
 slice-write-out-3 c = omega arith
 
-add-result : tie.Need-overflow-add-result invariant-loop decreases-loop
+add-result : tie.Need-overflow_add-result invariant-loop decreases-loop
 add-result c = omega arith
 
-same_length : tie.Need-same-length invariant-loop decreases-loop
+same_length : tie.Need-shape_of-out-then-i-gt0 invariant-loop decreases-loop
 same_length c = simp length-set (omega arith)
 
-returns : tie.Need-returns invariant-loop decreases-loop
+returns : tie.Need-returns-then-i-gt0 invariant-loop decreases-loop
 returns c =
     let l = c.before.before.before.loop in
     let w = c.before.before.before.before.width in
     let a = c.before.before.before.before.before.before.args in
     let z : l.i ≡ 1 = omega arith in (
-      put a.n w.result a.at a.out.now (set l.out a.at c.glyph3.result) w.ensures.0
-          (l.invariant.2 ∙ one_left l.out a.at l.i l.v c.glyph3.result z c.glyph3.ensures),
+      put a.n w.result a.at a.out.now (set l.out a.at c.glyph-then-i-gt0.result) w.ensures.0
+          (l.invariant.2 ∙ one_left l.out a.at l.i l.v c.glyph-then-i-gt0.result z c.glyph-then-i-gt0.ensures),
       omega arith,
     )
 
-add-result-2 : tie.Need-overflow-add-result-2 invariant-loop decreases-loop
+add-result-2 : tie.Need-overflow_add-result-2 invariant-loop decreases-loop
 add-result-2 c = omega arith
 
-same-length-2 : tie.Need-same-length-2 invariant-loop decreases-loop
+same-length-2 : tie.Need-shape_of-out invariant-loop decreases-loop
 same-length-2 c = omega arith
 
-returns-2 : tie.Need-returns-2 invariant-loop decreases-loop
+returns-2 : tie.Need-returns invariant-loop decreases-loop
 returns-2 c =
     let l = c.before.before.loop in
     let w = c.before.before.before.width in
@@ -134,8 +134,8 @@ returns-2 c =
     let z : l.i ≡ 0 = omega arith in
     (put a.n w.result a.at a.out.now l.out w.ensures.0 (l.invariant.2 ∙ none_left l.out a.at l.i l.v z), omega arith)
 
-pub put-digits-spec : {M : Type 1} → statement M
-put-digits-spec =
+pub put_digits_spec : {M : Type 1} → statement M
+put_digits_spec =
     tie.close
     (tie.spec
     invariant-loop

@@ -15,56 +15,56 @@ use Rattle.print.proofs.Writing as W
 use Rattle.print.proofs.put_end.Statement.{statement}
 use Rattle.print.proofs.put_end.Tie as tie
 
-returns : tie.Need-returns
+returns : tie.Need-returns-then-out-at
 returns c =
     let a = c.before.before.args in
-    W.nothing_put 70 a.at a.out.now (end_of a.samples a.symbols a.t) (omega arith)
+    W.nothing_put 70 a.at a.out-1.now (end_of a.samples a.symbols a.t) (omega arith)
 
-sub-if2 : tie.Need-overflow-sub-if2
+sub-if2 : tie.Need-overflow_sub-out
 sub-if2 c = search rules
 
-returns-2 : tie.Need-returns-2
+returns-2 : tie.Need-returns-then-out-at-lt70
 returns-2 c =
     let a = c.before.before.before.args in
-    W.nothing_put 70 a.at a.out.now (end_of a.samples a.symbols a.t) (omega arith)
+    W.nothing_put 70 a.at a.out-1.now (end_of a.samples a.symbols a.t) (omega arith)
 
 slice-aggregate-put-bytes : tie.Need-slice-aggregate-put-bytes
 slice-aggregate-put-bytes c = search rules
 
-put-bytes-requires : tie.Need-put-bytes-requires
+put-bytes-requires : tie.Need-put_bytes-p-requires
 put-bytes-requires c κs = search rules
 
-put-digits-requires : tie.Need-put-digits-requires
+put-digits-requires : tie.Need-put_digits-p-requires
 put-digits-requires c κs = search rules
 
 slice-aggregate-put-bytes-2 : tie.Need-slice-aggregate-put-bytes-2
 slice-aggregate-put-bytes-2 c = search rules
 
-put-bytes-requires-2 : tie.Need-put-bytes-requires-2
+put-bytes-requires-2 : tie.Need-put_bytes-p-requires-2
 put-bytes-requires-2 c κs = search rules
 
-put-digits-requires-2 : tie.Need-put-digits-requires-2
+put-digits-requires-2 : tie.Need-put_digits-p-requires-2
 put-digits-requires-2 c κs = search rules
 
 slice-aggregate-put-bytes-3 : tie.Need-slice-aggregate-put-bytes-3
 slice-aggregate-put-bytes-3 c = search rules
 
-put-bytes-requires-3 : tie.Need-put-bytes-requires-3
+put-bytes-requires-3 : tie.Need-put_bytes-p-requires-3
 put-bytes-requires-3 c κs = search rules
 
-put-number-requires : tie.Need-put-number-requires
+put-number-requires : tie.Need-put_number-p-requires
 put-number-requires c κs = search rules
 
 slice-aggregate-put-bytes-4 : tie.Need-slice-aggregate-put-bytes-4
 slice-aggregate-put-bytes-4 c = search rules
 
-put-bytes-requires-4 : tie.Need-put-bytes-requires-4
+put-bytes-requires-4 : tie.Need-put_bytes-requires
 put-bytes-requires-4 c κs = search rules
 
-same_length : tie.Need-same-length
+same_length : tie.Need-shape_of-out
 same_length c = search rules
 
-returns-3 : tie.Need-returns-3
+returns-3 : tie.Need-returns
 returns-3 c =
     let p7 = c.before.before in
     let p6 = p7.before.before.before.before.before in
@@ -75,20 +75,20 @@ returns-3 c =
     let p1 = p2.before.before.before.before in
     let s = p1.before.before.before.before.before.before in
     let a = s.args in
-    let two = W.joined p1.put-bytes.ensures p2.put-digits.ensures.0 in
-    let four = W.joined (W.joined two p3.put-bytes2.ensures) p4.put-digits2.ensures.0 in
-    let all = W.joined (W.joined (W.joined four p5.put-bytes3.ensures) p6.put-number.ensures.0) p7.put-bytes4.ensures in
-    let line : Put (end_of a.samples a.symbols a.t) a.out.now a.at p7.put-bytes4.result p7.put-bytes4.new.1.0 =
-    subst (λ (z : ℤ). Put (end_of a.samples a.symbols z) a.out.now a.at p7.put-bytes4.result p7.put-bytes4.new.1.0)
+    let two = W.joined p1.put_bytes-p.ensures p2.put_digits-p.ensures.0 in
+    let four = W.joined (W.joined two p3.put_bytes-p-2.ensures) p4.put_digits-p-2.ensures.0 in
+    let all = W.joined (W.joined (W.joined four p5.put_bytes-p-3.ensures) p6.put_number-p.ensures.0) p7.put_bytes.ensures in
+    let line : Put (end_of a.samples a.symbols a.t) a.out-1.now a.at p7.put_bytes.result p7.put_bytes.new.1.0 =
+    subst (λ (z : ℤ). Put (end_of a.samples a.symbols z) a.out-1.now a.at p7.put_bytes.result p7.put_bytes.new.1.0)
     (to_z-of_z s.ranges.t)
-    (subst (λ (t : List ℕ). Put t a.out.now a.at p7.put-bytes4.result p7.put-bytes4.new.1.0)
+    (subst (λ (t : List ℕ). Put t a.out-1.now a.at p7.put_bytes.result p7.put_bytes.new.1.0)
     (W.end-text a.samples a.symbols (to_z w64 (of_z w64 a.t))) all) in
-    let fits : a.at + 70 ≤ length a.out.now = omega (arith, p1.before.before.before.if2.false, p1.before.before.before.before.if1.false) in
-    subst (λ (t : List ℕ). Put t a.out.now a.at p7.put-bytes4.result p7.put-bytes4.new.1.0)
-    (sym (W.with-room 70 a.at a.out.now (end_of a.samples a.symbols a.t) fits)) line
+    let fits : a.at + 70 ≤ length a.out-1.now = omega (arith, p1.before.before.before.if-out-at-lt70.false, p1.before.before.before.before.if-out-at.false) in
+    subst (λ (t : List ℕ). Put t a.out-1.now a.at p7.put_bytes.result p7.put_bytes.new.1.0)
+    (sym (W.with-room 70 a.at a.out-1.now (end_of a.samples a.symbols a.t) fits)) line
 
-pub put-end-spec : {M : Type 1} → statement M
-put-end-spec =
+pub put_end_spec : {M : Type 1} → statement M
+put_end_spec =
     tie.close
     (tie.spec
     returns

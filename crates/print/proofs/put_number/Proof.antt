@@ -28,13 +28,13 @@ signed b d out at r left x = record {
 magnitude-requires : tie.Need-magnitude-requires
 magnitude-requires c κs = search rules
 
-put-digits-requires : tie.Need-put-digits-requires
+put-digits-requires : tie.Need-put_digits-requires
 put-digits-requires c κs = search rules
 
-same_length : tie.Need-same-length
+same_length : tie.Need-shape_of-out-then-z-ge0
 same_length c = search rules
 
-returns : tie.Need-returns
+returns : tie.Need-returns-then-z-ge0
 returns c =
     let p = c.before.before in
     let m = p.before.before.magnitude in
@@ -43,29 +43,29 @@ returns c =
     let z = s.args.z in
     let e : decimal m.result ≡ text_of z =
     ap decimal (m.ensures ∙ ap magnitude_of (to_z-of_z s.ranges.z))
-    ∙ sym (W.text-up z (subst (λ (y : ℤ). le_z (pos 0) y ≡ true) (to_z-of_z s.ranges.z) t.if1.true)) in (
-      subst (λ (d : List ℕ). Put d s.args.out.now s.args.at p.put-digits.result p.put-digits.new.1.0) e p.put-digits.ensures.0,
+    ∙ sym (W.text-up z (subst (λ (y : ℤ). le_z (pos 0) y ≡ true) (to_z-of_z s.ranges.z) t.if-z-ge0.true)) in (
+      subst (λ (d : List ℕ). Put d s.args.out.now s.args.at p.put_digits.result p.put_digits.new.1.0) e p.put_digits.ensures.0,
       omega arith,
     )
 
-slice-write-out : tie.Need-slice-write-out
+slice-write-out : tie.Need-bounds-out-at
 slice-write-out c = search rules
 
 magnitude-requires-2 : tie.Need-magnitude-requires-2
 magnitude-requires-2 c κs = search rules
 
-add-put-digits : tie.Need-overflow-add-put-digits
+add-put-digits : tie.Need-overflow_add-at
 add-put-digits c = search rules
 
-put-digits-requires-2 : tie.Need-put-digits-requires-2
+put-digits-requires-2 : tie.Need-put_digits-requires-2
 put-digits-requires-2 c κs = simp length-set (omega arith)
 
-same-length-2 : tie.Need-same-length-2
+same-length-2 : tie.Need-shape_of-out
 same-length-2 c =
     let a = c.before.before.before.before.before.before.before.args in
-    c.before.before.put-digits2.auto.1.0 ∙ length-set a.out.now a.at 45
+    c.before.before.put_digits-2.auto.1.0 ∙ length-set a.out-1.now a.at 45
 
-returns-2 : tie.Need-returns-2
+returns-2 : tie.Need-returns
 returns-2 c =
     let p = c.before.before in
     let m = p.before.before.magnitude2 in
@@ -74,15 +74,15 @@ returns-2 c =
     let z = s.args.z in
     let e : 45 ∷ decimal m.result ≡ text_of z =
     ap (λ (n : ℕ). 45 ∷ decimal n) (m.ensures ∙ ap magnitude_of (to_z-of_z s.ranges.z))
-    ∙ sym (W.text-down z (subst (λ (y : ℤ). le_z (pos 0) y ≡ false) (to_z-of_z s.ranges.z) t.if1.false)) in (
-      subst (λ (d : List ℕ). Put d s.args.out.now s.args.at p.put-digits2.result p.put-digits2.new.1.0) e
-          (signed 45 (decimal m.result) s.args.out.now s.args.at p.put-digits2.result p.put-digits2.new.1.0
-          p.put-digits2.ensures.0),
+    ∙ sym (W.text-down z (subst (λ (y : ℤ). le_z (pos 0) y ≡ false) (to_z-of_z s.ranges.z) t.if-z-ge0.false)) in (
+      subst (λ (d : List ℕ). Put d s.args.out.now s.args.at p.put_digits-2.result p.put_digits-2.new.1.0) e
+          (signed 45 (decimal m.result) s.args.out.now s.args.at p.put_digits-2.result p.put_digits-2.new.1.0
+          p.put_digits-2.ensures.0),
       omega arith,
     )
 
-pub put-number-spec : {M : Type 1} → statement M
-put-number-spec =
+pub put_number_spec : {M : Type 1} → statement M
+put_number_spec =
     tie.close
     (tie.spec
     magnitude-requires

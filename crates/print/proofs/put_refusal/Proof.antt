@@ -11,47 +11,47 @@ use Rattle.print.proofs.Writing as W
 use Rattle.print.proofs.put_refusal.Statement.{statement}
 use Rattle.print.proofs.put_refusal.Tie as tie
 
-returns : tie.Need-returns
+returns : tie.Need-returns-then-out-at
 returns c =
     let a = c.before.before.args in
-    W.nothing_put 52 a.at a.out.now (refused_of a.number a.line) (omega arith)
+    W.nothing_put 52 a.at a.out-1.now (refused_of a.number a.line) (omega arith)
 
-sub-if2 : tie.Need-overflow-sub-if2
+sub-if2 : tie.Need-overflow_sub-out
 sub-if2 c = search rules
 
-returns-2 : tie.Need-returns-2
+returns-2 : tie.Need-returns-then-out-at-lt52
 returns-2 c =
     let a = c.before.before.before.args in
-    W.nothing_put 52 a.at a.out.now (refused_of a.number a.line) (omega arith)
+    W.nothing_put 52 a.at a.out-1.now (refused_of a.number a.line) (omega arith)
 
 slice-aggregate-put-bytes : tie.Need-slice-aggregate-put-bytes
 slice-aggregate-put-bytes c = search rules
 
-put-bytes-requires : tie.Need-put-bytes-requires
+put-bytes-requires : tie.Need-put_bytes-p-requires
 put-bytes-requires c κs = search rules
 
-put-digits-requires : tie.Need-put-digits-requires
+put-digits-requires : tie.Need-put_digits-p-requires
 put-digits-requires c κs = search rules
 
 slice-aggregate-put-bytes-2 : tie.Need-slice-aggregate-put-bytes-2
 slice-aggregate-put-bytes-2 c = search rules
 
-put-bytes-requires-2 : tie.Need-put-bytes-requires-2
+put-bytes-requires-2 : tie.Need-put_bytes-p-requires-2
 put-bytes-requires-2 c κs = search rules
 
-put-digits-requires-2 : tie.Need-put-digits-requires-2
+put-digits-requires-2 : tie.Need-put_digits-p-requires-2
 put-digits-requires-2 c κs = search rules
 
 slice-aggregate-put-bytes-3 : tie.Need-slice-aggregate-put-bytes-3
 slice-aggregate-put-bytes-3 c = search rules
 
-put-bytes-requires-3 : tie.Need-put-bytes-requires-3
+put-bytes-requires-3 : tie.Need-put_bytes-requires
 put-bytes-requires-3 c κs = search rules
 
-same_length : tie.Need-same-length
+same_length : tie.Need-shape_of-out
 same_length c = search rules
 
-returns-3 : tie.Need-returns-3
+returns-3 : tie.Need-returns
 returns-3 c =
     let p5 = c.before.before in
     let p4 = p5.before.before.before.before.before in
@@ -59,16 +59,16 @@ returns-3 c =
     let p2 = p3.before.before.before.before.before in
     let p1 = p2.before.before.before.before in
     let a = p1.before.before.before.before.before.before.args in
-    let all = W.joined (W.joined (W.joined (W.joined p1.put-bytes.ensures p2.put-digits.ensures.0) p3.put-bytes2.ensures)
-    p4.put-digits2.ensures.0) p5.put-bytes3.ensures in
-    let line : Put (refused_of a.number a.line) a.out.now a.at p5.put-bytes3.result p5.put-bytes3.new.1.0 =
-    subst (λ (t : List ℕ). Put t a.out.now a.at p5.put-bytes3.result p5.put-bytes3.new.1.0) (W.refused-text a.number a.line) all in
-    let fits : a.at + 52 ≤ length a.out.now = omega (arith, p1.before.before.before.if2.false, p1.before.before.before.before.if1.false) in
-    subst (λ (t : List ℕ). Put t a.out.now a.at p5.put-bytes3.result p5.put-bytes3.new.1.0)
-    (sym (W.with-room 52 a.at a.out.now (refused_of a.number a.line) fits)) line
+    let all = W.joined (W.joined (W.joined (W.joined p1.put_bytes-p.ensures p2.put_digits-p.ensures.0) p3.put_bytes-p-2.ensures)
+    p4.put_digits-p-2.ensures.0) p5.put_bytes.ensures in
+    let line : Put (refused_of a.number a.line) a.out-1.now a.at p5.put_bytes.result p5.put_bytes.new.1.0 =
+    subst (λ (t : List ℕ). Put t a.out-1.now a.at p5.put_bytes.result p5.put_bytes.new.1.0) (W.refused-text a.number a.line) all in
+    let fits : a.at + 52 ≤ length a.out-1.now = omega (arith, p1.before.before.before.if-out-at-lt52.false, p1.before.before.before.before.if-out-at.false) in
+    subst (λ (t : List ℕ). Put t a.out-1.now a.at p5.put_bytes.result p5.put_bytes.new.1.0)
+    (sym (W.with-room 52 a.at a.out-1.now (refused_of a.number a.line) fits)) line
 
-pub put-refusal-spec : {M : Type 1} → statement M
-put-refusal-spec =
+pub put_refusal_spec : {M : Type 1} → statement M
+put_refusal_spec =
     tie.close
     (tie.spec
     returns

@@ -40,99 +40,99 @@ step zs out₀ out at p n r mid h x l =
           ∙ ap (λ (m : ℕ). sets (set mid r b) m rest) (sym (add-one r)),
     )
 
-abbrev invariant-loop : tie.invariant-loop
+abbrev invariant-loop : tie.invariant-loop-n
 invariant-loop values out₀ at p₀ n₀ out p n =
     (length out ≡ length out₀) × (n ≤ length values) × (p + 22 * (length values - n) ≤ length out) × Left values out₀ at out p n
 
-abbrev decreases-loop : tie.decreases-loop
+abbrev decreases-loop : tie.decreases-loop-n
 decreases-loop values out₀ at p₀ n₀ out p n = length values - n
 
-returns : tie.Need-returns invariant-loop decreases-loop
+returns : tie.Need-returns-then-out-at invariant-loop decreases-loop
 returns c =
     let a = c.before.before.args in
-    W.nothing_put (22 * length a.values.now) a.at a.out.now (line_text a.values.now) (omega arith)
+    W.nothing_put (22 * length a.values.now) a.at a.out-1.now (line_text a.values.now) (omega arith)
 
-sub-if2 : tie.Need-overflow-sub-if2 invariant-loop decreases-loop
+sub-if2 : tie.Need-overflow_sub-out invariant-loop decreases-loop
 sub-if2 c = search rules
 
-returns-2 : tie.Need-returns-2 invariant-loop decreases-loop
+returns-2 : tie.Need-returns-then-out-at-2 invariant-loop decreases-loop
 returns-2 c =
     let a = c.before.before.before.args in
-    W.nothing_put (22 * length a.values.now) a.at a.out.now (line_text a.values.now) (omega arith)
+    W.nothing_put (22 * length a.values.now) a.at a.out-1.now (line_text a.values.now) (omega arith)
 
-loop-holds : tie.Need-loop-init invariant-loop decreases-loop
+loop-holds : tie.Need-loop-n-init invariant-loop decreases-loop
 loop-holds c = (refl, omega arith, omega arith, (refl, refl))
 
-mul-put-number : tie.Need-overflow-mul-put-number invariant-loop decreases-loop
+mul-put-number : tie.Need-offset_bounds-values-n invariant-loop decreases-loop
 mul-put-number c = search rules
 
-shared-slice-copy-out-put-number : tie.Need-shared-slice-copy-out-put-number invariant-loop decreases-loop
+shared-slice-copy-out-put-number : tie.Need-bounds-values-n invariant-loop decreases-loop
 shared-slice-copy-out-put-number c = search rules
 
-put-number-requires : tie.Need-put-number-requires invariant-loop decreases-loop
+put-number-requires : tie.Need-put_number-p-requires invariant-loop decreases-loop
 put-number-requires c κs =
     let l = c.before.before.before in
-    let h : l.loop.n < length l.before.before.before.before.args.values.now = c.before.before.loop-test.true in
-    omega (arith, l.loop.invariant.2)
+    let h : l.loop-n.n < length l.before.before.before.before.args.values.now = c.before.before.loop-n-test.true in
+    omega (arith, l.loop-n.invariant.2)
 
-add-n : tie.Need-overflow-add-n invariant-loop decreases-loop
+add-n : tie.Need-overflow_add-n invariant-loop decreases-loop
 add-n c = search rules
 
 behind-requires : tie.Need-behind-requires invariant-loop decreases-loop
 behind-requires c κs = search rules
 
-slice-write-out : tie.Need-slice-write-out invariant-loop decreases-loop
+slice-write-out : tie.Need-bounds-out-p invariant-loop decreases-loop
 slice-write-out c =
     let l = c.before.before.before.before.before.before.before in
-    let h : l.loop.n < length l.before.before.before.before.args.values.now = c.before.before.before.before.before.before.loop-test.true in
-    omega (arith, l.loop.invariant.2, c.before.before.before.put-number.ensures.1, c.before.before.before.put-number.auto.1.0)
+    let h : l.loop-n.n < length l.before.before.before.before.args.values.now = c.before.before.before.before.before.before.loop-n-test.true in
+    omega (arith, l.loop-n.invariant.2, c.before.before.before.put_number-p.ensures.1, c.before.before.before.put_number-p.auto.1.0)
 
-add-p : tie.Need-overflow-add-p invariant-loop decreases-loop
+add-p : tie.Need-overflow_add-p invariant-loop decreases-loop
 add-p c = omega (arith, slice-write-out c)
 
-loop-less : tie.Need-loop-smaller invariant-loop decreases-loop
+loop-less : tie.Need-loop-n-smaller invariant-loop decreases-loop
 loop-less c = search rules
 
-loop-again : tie.Need-loop-preserved invariant-loop decreases-loop
+loop-again : tie.Need-loop-n-preserved invariant-loop decreases-loop
 loop-again c =
     let g = c.before.before.before in
     let l = g.before.before.before.before in
     let a = l.before.before.before.before.args in
     let zs = a.values.now in
-    let h : l.loop.n < length zs = g.before.before.before.loop-test.true in
-    let same : length g.put-number.new.1.0 ≡ length l.loop.out = g.put-number.auto.1.0 in
-    let z = get_or zs l.loop.n (pos 0) in
-    let put : Put (text_of z) l.loop.out l.loop.p g.put-number.result g.put-number.new.1.0 =
-    subst (λ (y : ℤ). Put (text_of y) l.loop.out l.loop.p g.put-number.result g.put-number.new.1.0)
-    (held w64 z g.before.before.put-number-arg.given) g.put-number.ensures.0 in
-    let left = step zs a.out.now l.loop.out a.at l.loop.p l.loop.n g.put-number.result g.put-number.new.1.0 h put
-    l.loop.invariant.3 in (
-      simp length-set (same ∙ l.loop.invariant.0),
+    let h : l.loop-n.n < length zs = g.before.before.before.loop-n-test.true in
+    let same : length g.put_number-p.new.1.0 ≡ length l.loop-n.out = g.put_number-p.auto.1.0 in
+    let z = get_or zs l.loop-n.n (pos 0) in
+    let put : Put (text_of z) l.loop-n.out l.loop-n.p g.put_number-p.result g.put_number-p.new.1.0 =
+    subst (λ (y : ℤ). Put (text_of y) l.loop-n.out l.loop-n.p g.put_number-p.result g.put_number-p.new.1.0)
+    (held w64 z g.before.before.put_number-arg-1.given) g.put_number-p.ensures.0 in
+    let left = step zs a.out-1.now l.loop-n.out a.at l.loop-n.p l.loop-n.n g.put_number-p.result g.put_number-p.new.1.0 h put
+    l.loop-n.invariant.3 in (
+      simp length-set (same ∙ l.loop-n.invariant.0),
       omega arith,
-      simp length-set (omega (arith, same, l.loop.invariant.2, g.put-number.ensures.1)),
-      subst (λ (b : ℕ). Left zs a.out.now a.at (set g.put-number.new.1.0 g.put-number.result b) (g.put-number.result + 1)
-          (l.loop.n + 1)) (sym c.behind.ensures) left,
+      simp length-set (omega (arith, same, l.loop-n.invariant.2, g.put_number-p.ensures.1)),
+      subst (λ (b : ℕ). Left zs a.out-1.now a.at (set g.put_number-p.new.1.0 g.put_number-p.result b) (g.put_number-p.result + 1)
+          (l.loop-n.n + 1)) (sym c.behind.ensures) left,
     )
 
-same_length : tie.Need-same-length invariant-loop decreases-loop
+same_length : tie.Need-shape_of-out invariant-loop decreases-loop
 same_length c = search rules
 
-returns-3 : tie.Need-returns-3 invariant-loop decreases-loop
+returns-3 : tie.Need-returns invariant-loop decreases-loop
 returns-3 c =
     let l = c.before in
     let a = l.before.before.before.before.args in
     let zs = a.values.now in
-    let h : length zs ≤ l.loop.n = c.loop-test.false in
-    let e : line_text (drop l.loop.n zs) ≡ [] = W.row-end zs l.loop.n h in
-    let z : length (line_text (drop l.loop.n zs)) ≡ 0 = ap (λ (u : List ℕ). length u) e in
-    let fits : a.at + 22 * length zs ≤ length a.out.now = omega arith in
-    rw (W.with-room (22 * length zs) a.at a.out.now (line_text zs) fits) (record {
-      end = omega (arith, l.loop.invariant.3.0, z);
-      bytes = sym (l.loop.invariant.3.1 ∙ ap (λ (u : List ℕ). sets l.loop.out l.loop.p u) e);
+    let h : length zs ≤ l.loop-n.n = c.loop-n-test.false in
+    let e : line_text (drop l.loop-n.n zs) ≡ [] = W.row-end zs l.loop-n.n h in
+    let z : length (line_text (drop l.loop-n.n zs)) ≡ 0 = ap (λ (u : List ℕ). length u) e in
+    let fits : a.at + 22 * length zs ≤ length a.out-1.now = omega arith in
+    rw (W.with-room (22 * length zs) a.at a.out-1.now (line_text zs) fits) (record {
+      end = omega (arith, l.loop-n.invariant.3.0, z);
+      bytes = sym (l.loop-n.invariant.3.1 ∙ ap (λ (u : List ℕ). sets l.loop-n.out l.loop-n.p u) e);
     })
 
-pub put-row-spec : {M : Type 1} → statement M
-put-row-spec =
+pub put_row_spec : {M : Type 1} → statement M
+put_row_spec =
     tie.close
     (tie.spec
     invariant-loop

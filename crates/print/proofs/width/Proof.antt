@@ -33,39 +33,39 @@ whole n k power h r =
     let b : n < 10 ^ suc r.0 = subst (λ (x : ℕ). n < x) (ap (λ (x : ℕ). x * 10) r.2 ∙ sym (pow-suc 10 r.0)) l in
     W.as-last r.0 n b r.4 ∙ ap (λ (m : ℕ). last_digits m n) (sym r.1)
 
-abbrev invariant-loop : tie.invariant-loop
+abbrev invariant-loop : tie.invariant-loop-power
 invariant-loop n tenth k₀ power₀ k power = Reached n k power
 
-abbrev decreases-loop : tie.decreases-loop
+abbrev decreases-loop : tie.decreases-loop-power
 decreases-loop n tenth k₀ power₀ k power = n + 1 - power
 
-loop-holds : tie.Need-loop-init invariant-loop decreases-loop
+loop-holds : tie.Need-loop-power-init invariant-loop decreases-loop
 loop-holds c = (0, refl, refl, omega arith, λ (h : 0 < 0). absurd (omega arith))
 
-mul_power : tie.Need-overflow-mul-power invariant-loop decreases-loop
+mul_power : tie.Need-overflow_mul-power invariant-loop decreases-loop
 mul_power c = omega arith
 
-add-k : tie.Need-overflow-add-k invariant-loop decreases-loop
+add-k : tie.Need-overflow_add-k invariant-loop decreases-loop
 add-k c =
     let l = c.before.loop in
     let h : l.k ≤ 20 = few c.before.before.args.n l.k l.power c.before.before.ranges.n.fits l.invariant in
     omega arith
 
-loop-less : tie.Need-loop-smaller invariant-loop decreases-loop
+loop-less : tie.Need-loop-power-smaller invariant-loop decreases-loop
 loop-less c =
-    let p : 0 < c.before.loop.power = c.before.loop.invariant.3 in
+    let p : 0 < c.before.loop-power.power = c.before.loop-power.invariant.3 in
     omega arith
 
-loop-again : tie.Need-loop-preserved invariant-loop decreases-loop
+loop-again : tie.Need-loop-power-preserved invariant-loop decreases-loop
 loop-again c =
     let l = c.before.loop in
-    further c.before.before.args.n l.k l.power c.loop-test.true l.invariant
+    further c.before.before.args.n l.k l.power c.loop-power-test.true l.invariant
 
 returns : tie.Need-returns invariant-loop decreases-loop
 returns c =
     let l = c.before.loop in
     let n = c.before.before.args.n in
-    (whole n l.k l.power c.loop-test.false l.invariant, few n l.k l.power c.before.before.ranges.n.fits l.invariant)
+    (whole n l.k l.power c.loop-power-test.false l.invariant, few n l.k l.power c.before.before.ranges.n.fits l.invariant)
 
 pub width_spec : {M : Type 1} → statement M
 width_spec =

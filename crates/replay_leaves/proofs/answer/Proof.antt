@@ -5,68 +5,68 @@ use borrow.Author.Rules.{rules, sfits_of}
 use Rattle.replay_leaves.proofs.answer.Statement.{statement}
 use Rattle.replay_leaves.proofs.answer.Tie as tie
 
-wrap-u32-requires : tie.Need-wrap-u32-requires
+wrap-u32-requires : tie.Need-wrap_u32-requires
 wrap-u32-requires c κs = search rules
 
-round-shift-requires : tie.Need-round-shift-requires
+round-shift-requires : tie.Need-round_shift-requires
 round-shift-requires c κs = search rules
 
-returns : tie.Need-returns
+returns : tie.Need-returns-then-function-eq0
 returns c = search rules
 
-wrap-u32-requires-2 : tie.Need-wrap-u32-requires-2
+wrap-u32-requires-2 : tie.Need-wrap_u32-requires-then-function-eq1
 wrap-u32-requires-2 c κs = search rules
 
-shift-right-requires : tie.Need-shift-right-requires
+shift-right-requires : tie.Need-shift_right-requires
 shift-right-requires c κs = search rules
 
-returns-2 : tie.Need-returns-2
+returns-2 : tie.Need-returns-then-function-eq1
 returns-2 c = search rules
 
 clamp-requires : tie.Need-clamp-requires
 clamp-requires c κs = search rules
 
-returns-3 : tie.Need-returns-3
+returns-3 : tie.Need-returns-then-function-eq3
 returns-3 c = search rules
 
 sat16-requires : tie.Need-sat16-requires
 sat16-requires c κs = search rules
 
-cast-result : tie.Need-overflow-cast-result
-cast-result c = widens w64 tt (sfits_of {w = w16} {z = c.before.before.sat16.result.value} (search c.struct_told.given))
+cast-result : tie.Need-overflow_cast-result
+cast-result c = widens w64 tt (sfits_of {w = w16} {z = c.before.before.sat16.result.value} (search c.struct_told-1.given))
 
-returns-4 : tie.Need-returns-4
+returns-4 : tie.Need-returns-then-function-eq4
 returns-4 c = search rules
 
-wrap-u32-requires-3 : tie.Need-wrap-u32-requires-3
+wrap-u32-requires-3 : tie.Need-wrap_u32-requires-then-function-eq5
 wrap-u32-requires-3 c κs = search rules
 
-cast-result-2 : tie.Need-overflow-cast-result-2
+cast-result-2 : tie.Need-overflow_cast-result-then-function-eq5
 cast-result-2 c = search rules
 
-returns-5 : tie.Need-returns-5
+returns-5 : tie.Need-returns-then-function-eq5
 returns-5 c = search rules
 
-wrap-i32-requires : tie.Need-wrap-i32-requires
+wrap-i32-requires : tie.Need-wrap_i32-requires
 wrap-i32-requires c κs = search rules
 
-cast-result-3 : tie.Need-overflow-cast-result-3
-cast-result-3 c = widens w64 tt (sfits_of {w = w32} {z = c.wrap-i32.result} c.wrap-i32.type-inv)
+cast-result-3 : tie.Need-overflow_cast-result-then-function-eq6
+cast-result-3 c = widens w64 tt (sfits_of {w = w32} {z = c.wrap_i32.result} c.wrap_i32.type-inv)
 
-returns-6 : tie.Need-returns-6
+returns-6 : tie.Need-returns-then-function-eq6
 returns-6 c = search rules
 
-wrap-u32-requires-4 : tie.Need-wrap-u32-requires-4
+wrap-u32-requires-4 : tie.Need-wrap_u32-requires-2
 wrap-u32-requires-4 c κs = search rules
 
 entry-requires : tie.Need-entry-requires
 entry-requires c κs = search rules
 
-returns-7 : tie.Need-returns-7
+returns-7 : tie.Need-returns
 returns-7 c = search rules
 
-pub answer-spec : {M : Type 1} → statement M
-answer-spec =
+pub answer_spec : {M : Type 1} → statement M
+answer_spec =
     tie.close
     (tie.spec
     wrap-u32-requires

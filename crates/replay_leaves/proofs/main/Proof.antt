@@ -8,16 +8,16 @@ use Rattle.replay_leaves.proofs.main.Tie as tie
 use Rattle.rows.proofs.Cursor.new.Reads as Cursor-new-reads
 use Rattle.rows.proofs.Tally.new.Reads as Tally-new-reads
 
-abbrev invariant-loop : tie.invariant-loop
+abbrev invariant-loop : tie.invariant-loop-turns
 invariant-loop wheel bytes₀ row₀ progress₀ turns₀ n₀ bytes row progress turns n = length bytes ≡ 65536
 
-abbrev decreases-loop : tie.decreases-loop
+abbrev decreases-loop : tie.decreases-loop-turns
 decreases-loop wheel bytes₀ row₀ progress₀ turns₀ n₀ bytes row progress turns n = turns
 
-cos-table-requires : tie.Need-cos-table-requires invariant-loop decreases-loop
+cos-table-requires : tie.Need-cos_table-wheel-requires invariant-loop decreases-loop
 cos-table-requires c κs = search rules
 
-large-buffer-requires : tie.Need-large-buffer-requires invariant-loop decreases-loop
+large-buffer-requires : tie.Need-large_buffer-bytes-requires invariant-loop decreases-loop
 large-buffer-requires c κs = search rules
 
 new-requires : tie.Need-new-requires invariant-loop decreases-loop
@@ -26,37 +26,37 @@ new-requires c κs = search rules
 new-requires-2 : tie.Need-new-requires-2 invariant-loop decreases-loop
 new-requires-2 c κs = search rules
 
-loop-holds : tie.Need-loop-init invariant-loop decreases-loop
+loop-holds : tie.Need-loop-turns-init invariant-loop decreases-loop
 loop-holds c = search rules
 
-slice-aggregate-read : tie.Need-slice-aggregate-read invariant-loop decreases-loop
+slice-aggregate-read : tie.Need-slice_bounds-read-end invariant-loop decreases-loop
 slice-aggregate-read c = search rules
 
-read-requires : tie.Need-read-requires invariant-loop decreases-loop
+read-requires : tie.Need-read-got-requires invariant-loop decreases-loop
 read-requires c κs = search rules
 
-slice-aggregate-count : tie.Need-slice-aggregate-count invariant-loop decreases-loop
+slice-aggregate-count : tie.Need-slice_bounds-count-end invariant-loop decreases-loop
 slice-aggregate-count c = search rules
 
-count-requires : tie.Need-count-requires invariant-loop decreases-loop
+count-requires : tie.Need-count-n-requires invariant-loop decreases-loop
 count-requires c κs = search rules
 
-array-share-prefix-bytes : tie.Need-array-share-prefix-bytes invariant-loop decreases-loop
+array-share-prefix-bytes : tie.Need-slice_bounds-bytes-end invariant-loop decreases-loop
 array-share-prefix-bytes c = search rules
 
-slice-aggregate-piece : tie.Need-slice-aggregate-piece invariant-loop decreases-loop
+slice-aggregate-piece : tie.Need-slice_bounds-piece-end invariant-loop decreases-loop
 slice-aggregate-piece c = search rules
 
-piece-requires : tie.Need-piece-requires invariant-loop decreases-loop
+piece-requires : tie.Need-piece-progress-requires invariant-loop decreases-loop
 piece-requires c κs = search rules
 
-sub-turns : tie.Need-overflow-sub-turns invariant-loop decreases-loop
+sub-turns : tie.Need-overflow_sub-turns invariant-loop decreases-loop
 sub-turns c = search rules
 
-loop-less : tie.Need-loop-smaller invariant-loop decreases-loop
+loop-less : tie.Need-loop-turns-smaller invariant-loop decreases-loop
 loop-less c = search rules
 
-loop-again : tie.Need-loop-preserved invariant-loop decreases-loop
+loop-again : tie.Need-loop-turns-preserved invariant-loop decreases-loop
 loop-again c = search rules
 
 report-requires : tie.Need-report-requires invariant-loop decreases-loop

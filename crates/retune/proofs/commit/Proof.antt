@@ -27,30 +27,30 @@ leaves : (s : Sheet) (ticket : ℕ) (f : Frontend) {r : Refusal} → 0 < r.numbe
 unfolding commit_of
 leaves s ticket f h told = rw (not_none told h) (λ i. record { refused = told i; state = f })
 
-check-commit-requires : tie.Need-check-commit-requires
+check-commit-requires : tie.Need-check_commit-verdict-requires
 check-commit-requires c κs = search rules
 
-enum_told : tie.Need-enum-told
+enum_told : tie.Need-enum_told-1
 enum_told c = search rules
 
 holding-requires : tie.Need-holding-requires
 holding-requires c κs = search rules
 
-returns : tie.Need-returns
+returns : tie.Need-returns-in-Accepted
 returns c =
     let e = c.before in
     let t = e.before.before in
     let s = t.before in
     let a = s.args in
-    takes (sheet s) a.ticket a.f (passes (commit-numbered (sheet s) a.ticket a.f) t.check-commit.ensures e.enum_told.given.1)
+    takes (sheet s) a.ticket a.f (passes (commit-numbered (sheet s) a.ticket a.f) t.check_commit-verdict.ensures e.enum_told-1.given.1)
     c.holding.ensures
 
-returns-2 : tie.Need-returns-2
+returns-2 : tie.Need-returns-in_default
 returns-2 c =
     let t = c.before in
     let s = t.before in
-    leaves (sheet s) s.args.ticket s.args.f (refuses t.check-commit.result c.match.keys2) t.check-commit.ensures
+    leaves (sheet s) s.args.ticket s.args.f (refuses t.check_commit-verdict.result c.match.keys2) t.check_commit-verdict.ensures
 
-pub commit-spec : {M : Type 1} → statement M
-commit-spec =
+pub commit_spec : {M : Type 1} → statement M
+commit_spec =
     tie.close (tie.spec check-commit-requires enum_told holding-requires returns returns-2)

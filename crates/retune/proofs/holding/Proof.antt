@@ -8,5 +8,5 @@ returns : tie.Need-returns
 unfolding retuned
 returns c = refl
 
-pub holding-spec : {M : Type 1} → statement M
-holding-spec = tie.close (tie.spec returns)
+pub holding_spec : {M : Type 1} → statement M
+holding_spec = tie.close (tie.spec returns)

@@ -4,13 +4,13 @@ use Rattle.rows.specs.Rows.{ends_number}
 use Rattle.rows.proofs.ends_number.Statement.{statement}
 use Rattle.rows.proofs.ends_number.Tie as tie
 
-returns : tie.Need-returns
+returns : tie.Need-returns-then-b-eq44
 unfolding ends_number
-returns c = simp (eq-eqb _ _ c.if1.true)
+returns c = simp (eq-eqb _ _ c.if-b-eq44.true)
 
-returns-2 : tie.Need-returns-2
+returns-2 : tie.Need-returns-else-b-eq44
 unfolding ends_number
-returns-2 c = simp (ne_eqb _ _ c.if1.false)
+returns-2 c = simp (ne_eqb _ _ c.if-b-eq44.false)
 
-pub ends-number-spec : {M : Type 1} → statement M
-ends-number-spec = tie.close (tie.spec returns returns-2)
+pub ends_number_spec : {M : Type 1} → statement M
+ends_number_spec = tie.close (tie.spec returns returns-2)

@@ -4,28 +4,28 @@ use Rattle.rows.proofs.Parts.{drop-least, take_behind}
 use Rattle.rows.proofs.rest.Statement.{statement}
 use Rattle.rows.proofs.rest.Tie as tie
 
-least-requires : tie.Need-least-requires
+least-requires : tie.Need-least-start-requires
 least-requires c κs = search rules
 
-mul-result : tie.Need-overflow-mul-result
+mul-result : tie.Need-offset_bounds-row-start
 mul-result c = search rules
 
-sub-result : tie.Need-overflow-sub-result
+sub-result : tie.Need-slice_bounds-result-count
 sub-result c = search rules
 
-part-result-start : tie.Need-slice-bounds-result-start
+part-result-start : tie.Need-slice_bounds-result-start
 part-result-start c = search rules
 
-part-result-end : tie.Need-slice-bounds-result-end
+part-result-end : tie.Need-slice_bounds-result-end
 part-result-end c = search rules
 
 returns : tie.Need-returns
 returns c =
     let row = c.before.before.args.row.now in
     let from = c.before.before.args.from in
-    simp (take_behind c.before.least.result row) (rw c.before.least.ensures (drop-least from row))
+    simp (take_behind c.before.least-start.result row) (rw c.before.least-start.ensures (drop-least from row))
 
-pub rest-spec : {M : Type 1} → statement M
-rest-spec =
+pub rest_spec : {M : Type 1} → statement M
+rest_spec =
     tie.close
     (tie.spec least-requires mul-result sub-result part-result-start part-result-end returns)

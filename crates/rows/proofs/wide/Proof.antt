@@ -4,7 +4,7 @@ use Rattle.arith.proofs.Bits.{widens, widened}
 use Rattle.rows.proofs.wide.Statement.{statement}
 use Rattle.rows.proofs.wide.Tie as tie
 
-cast-result : tie.Need-overflow-cast-result
+cast-result : tie.Need-overflow_cast-result
 cast-result c = widens w64 tt c.ranges.v
 
 returns : tie.Need-returns

@@ -6,12 +6,12 @@ use Rattle.steps.specs.Steps.{agc_target}
 use Rattle.steps.proofs.agc_target.Statement.{statement}
 use Rattle.steps.proofs.agc_target.Tie as tie
 
-round-u32-requires : tie.Need-round-u32-requires
+round-u32-requires : tie.Need-round_u32-requires
 round-u32-requires c κs = search rules
 
 returns : tie.Need-returns
 unfolding agc_target of_bits
-returns c = c.round-u32.ensures
+returns c = c.round_u32.ensures
 
-pub agc-target-spec : {M : Type 1} → statement M
-agc-target-spec = tie.close (tie.spec round-u32-requires returns)
+pub agc_target_spec : {M : Type 1} → statement M
+agc_target_spec = tie.close (tie.spec round-u32-requires returns)

@@ -7,13 +7,13 @@ use Rattle.steps.specs.Steps.{at_least_min, least_sps}
 use Rattle.steps.proofs.at_least_min.Statement.{statement}
 use Rattle.steps.proofs.at_least_min.Tie as tie
 
-returns : tie.Need-returns
+returns : tie.Need-returns-then-x
 unfolding at_least_min of_bits
-returns c = sym (ap (λ (b : Bool). cond b c.before.args.x least_sps) c.if1.true)
+returns c = sym (ap (λ (b : Bool). cond b c.before.args.x least_sps) c.if-x.true)
 
-returns-2 : tie.Need-returns-2
+returns-2 : tie.Need-returns
 unfolding at_least_min of_bits
-returns-2 c = sym (ap (λ (b : Bool). cond b c.before.args.x least_sps) c.if1.false)
+returns-2 c = sym (ap (λ (b : Bool). cond b c.before.args.x least_sps) c.if-x.false)
 
-pub at-least-min-spec : {M : Type 1} → statement M
-at-least-min-spec = tie.close (tie.spec returns returns-2)
+pub at_least_min_spec : {M : Type 1} → statement M
+at_least_min_spec = tie.close (tie.spec returns returns-2)

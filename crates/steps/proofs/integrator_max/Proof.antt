@@ -10,15 +10,15 @@ use Rattle.steps.proofs.Decimals.{is-0_01}
 use Rattle.steps.proofs.integrator_max.Statement.{statement}
 use Rattle.steps.proofs.integrator_max.Tie as tie
 
-cut-i32-requires : tie.Need-cut-i32-requires
+cut-i32-requires : tie.Need-cut_i32-requires
 cut-i32-requires c κs = search rules
 
 returns : tie.Need-returns
 unfolding integrator_max of_bits
 returns c =
-    held w32 c.cut-i32.result c.cut-i32.type-inv
-    ∙ c.cut-i32.ensures
+    held w32 c.cut_i32.result c.cut_i32.type-inv
+    ∙ c.cut_i32.ensures
     ∙ ap (λ (y : Float). to_signed 31 (mul binary64 (mul binary64 c.before.args.sps y) (two_to 24))) is-0_01
 
-pub integrator-max-spec : {M : Type 1} → statement M
-integrator-max-spec = tie.close (tie.spec cut-i32-requires returns)
+pub integrator_max_spec : {M : Type 1} → statement M
+integrator_max_spec = tie.close (tie.spec cut-i32-requires returns)

@@ -11,17 +11,17 @@ use Rattle.steps.specs.Steps.{nco_step}
 use Rattle.steps.proofs.nco_step.Statement.{statement}
 use Rattle.steps.proofs.nco_step.Tie as tie
 
-round-i64-requires : tie.Need-round-i64-requires
+round-i64-requires : tie.Need-round_i64-requires
 round-i64-requires c κs = search rules
 
-wrap-i32-requires : tie.Need-wrap-i32-requires
+wrap-i32-requires : tie.Need-wrap_i32-requires
 wrap-i32-requires c κs = search rules
 
 returns : tie.Need-returns
 unfolding nco_step of_bits
 returns c =
     let away = c.before.round-i64 in
-    held w32 c.wrap-i32.result c.wrap-i32.type-inv ∙ c.wrap-i32.ensures ∙ ap (λ (z : ℤ). wrap_i32 z) (held w64 away.result away.type-inv ∙ away.ensures)
+    held w32 c.wrap_i32.result c.wrap_i32.type-inv ∙ c.wrap_i32.ensures ∙ ap (λ (z : ℤ). wrap_i32 z) (held w64 away.result away.type-inv ∙ away.ensures)
 
-pub nco-step-spec : {M : Type 1} → statement M
-nco-step-spec = tie.close (tie.spec round-i64-requires wrap-i32-requires returns)
+pub nco_step_spec : {M : Type 1} → statement M
+nco_step_spec = tie.close (tie.spec round-i64-requires wrap-i32-requires returns)

@@ -6,12 +6,12 @@ use Rattle.steps.specs.Steps.{period_nominal}
 use Rattle.steps.proofs.period_nominal.Statement.{statement}
 use Rattle.steps.proofs.period_nominal.Tie as tie
 
-round-u32-requires : tie.Need-round-u32-requires
+round-u32-requires : tie.Need-round_u32-requires
 round-u32-requires c κs = search rules
 
 returns : tie.Need-returns
 unfolding period_nominal of_bits
-returns c = c.round-u32.ensures
+returns c = c.round_u32.ensures
 
-pub period-nominal-spec : {M : Type 1} → statement M
-period-nominal-spec = tie.close (tie.spec round-u32-requires returns)
+pub period_nominal_spec : {M : Type 1} → statement M
+period_nominal_spec = tie.close (tie.spec round-u32-requires returns)

@@ -8,5 +8,5 @@ returns : tie.Need-returns
 unfolding quarter wheel entries wheel_table
 returns c = refl
 
-pub cos-table-spec : {M : Type 1} → statement M
-cos-table-spec = tie.close (tie.spec returns)
+pub cos_table_spec : {M : Type 1} → statement M
+cos_table_spec = tie.close (tie.spec returns)

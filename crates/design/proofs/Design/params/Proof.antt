@@ -7,34 +7,34 @@ use Rattle.design.proofs.Answers.{design-refuses, design-accepts}
 use Rattle.design.proofs.Design.params.Statement.{statement}
 use Rattle.design.proofs.Design.params.Tie as tie
 
-registers-requires : tie.Need-registers-requires
+registers-requires : tie.Need-registers-designed-requires
 registers-requires c κs = search rules
 
-enum-known-designed : tie.Need-enum-known-designed
+enum-known-designed : tie.Need-enum_known-designed
 enum-known-designed c = search rules
 
-enum-known-designed-2 : tie.Need-enum-known-designed-2
+enum-known-designed-2 : tie.Need-enum_known-designed-in-Accepted-1
 enum-known-designed-2 c = search rules
 
-with-gains-requires : tie.Need-with-gains-requires
+with-gains-requires : tie.Need-with_gains-requires
 with-gains-requires c κs = search rules
 
 judge-requires : tie.Need-judge-requires
 judge-requires c κs = search rules
 
-returns : tie.Need-returns
+returns : tie.Need-returns-in-Refused
 returns c =
-    let e = c.before.designed.given in
-    design-refuses _ _ _ _ _ (sym (ap design_answer e.1) ∙ c.before.before.before.registers.ensures)
+    let e = c.before.designed-1.given in
+    design-refuses _ _ _ _ _ (sym (ap design_answer e.1) ∙ c.before.before.before.registers-designed.ensures)
 
-returns-2 : tie.Need-returns-2
+returns-2 : tie.Need-returns-in-Accepted
 returns-2 c =
     let w = c.before in
-    let e = w.before.before.designed2.given in
-    design-accepts _ _ _ _ _ (sym (ap design_answer e.1) ∙ w.before.before.before.before.registers.ensures) w.with-gains.ensures c.judge.ensures
+    let e = w.before.before.designed-in-Accepted-1.given in
+    design-accepts _ _ _ _ _ (sym (ap design_answer e.1) ∙ w.before.before.before.before.registers-designed.ensures) w.with_gains.ensures c.judge.ensures
 
-pub params-spec : {M : Type 1} → statement M
-params-spec =
+pub params_spec : {M : Type 1} → statement M
+params_spec =
     tie.close
     (tie.spec
     registers-requires

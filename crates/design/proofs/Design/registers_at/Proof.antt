@@ -8,22 +8,22 @@ use Rattle.design.specs.Registers.{registers_of}
 use Rattle.design.proofs.Design.registers_at.Statement.{statement}
 use Rattle.design.proofs.Design.registers_at.Tie as tie
 
-nco-step-requires : tie.Need-nco-step-requires
+nco-step-requires : tie.Need-nco_step-requires
 nco-step-requires c κs = search rules
 
-period-nominal-requires : tie.Need-period-nominal-requires
+period-nominal-requires : tie.Need-period_nominal-requires
 period-nominal-requires c κs = search rules
 
-period-min-requires : tie.Need-period-min-requires
+period-min-requires : tie.Need-period_min-requires
 period-min-requires c κs = search rules
 
-period-max-requires : tie.Need-period-max-requires
+period-max-requires : tie.Need-period_max-requires
 period-max-requires c κs = search rules
 
-integrator-max-requires : tie.Need-integrator-max-requires
+integrator-max-requires : tie.Need-integrator_max-requires
 integrator-max-requires c κs = search rules
 
-agc-target-requires : tie.Need-agc-target-requires
+agc-target-requires : tie.Need-agc_target-requires
 agc-target-requires c κs = search rules
 
 returns : tie.Need-returns
@@ -38,21 +38,21 @@ returns c =
     λ i. record {
       taps = d.taps;
       nco_step = nco-is i;
-      period_nominal = n.period-nominal.ensures i;
-      period_min = c.before.before.before.period-min.ensures i;
-      period_max = c.before.before.period-max.ensures i;
+      period_nominal = n.period_nominal.ensures i;
+      period_min = c.before.before.before.period_min.ensures i;
+      period_max = c.before.before.period_max.ensures i;
       ted_shift = 8;
       integrator_max = integrator-is i;
       agc_init = 262144;
-      agc_target = c.agc-target.ensures i;
+      agc_target = c.agc_target.ensures i;
       agc_shift = 4;
       bits = d.bits;
       block_log2 = d.block_log2;
       delay = 24;
     }
 
-pub registers-at-spec : {M : Type 1} → statement M
-registers-at-spec =
+pub registers_at_spec : {M : Type 1} → statement M
+registers_at_spec =
     tie.close
     (tie.spec
     nco-step-requires

@@ -9,5 +9,5 @@ returns : tie.Need-returns
 unfolding sps_of
 returns c = refl
 
-pub sps-spec : {M : Type 1} → statement M
-sps-spec = tie.close (tie.spec returns)
+pub sps_spec : {M : Type 1} → statement M
+sps_spec = tie.close (tie.spec returns)

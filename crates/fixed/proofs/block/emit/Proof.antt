@@ -5,20 +5,20 @@ use borrow.Author.Tests.{not-true, not-false}
 use Rattle.fixed.proofs.block.emit.Statement.{statement}
 use Rattle.fixed.proofs.block.emit.Tie as tie
 
-returns : tie.Need-returns
-returns c = rw (not-true c.before.args.made c.if1.true) refl
+returns : tie.Need-returns-then-not-made
+returns c = rw (not-true c.before.args.made c.if-not-made.true) refl
 
 put-requires : tie.Need-put-requires
 put-requires c κs = search rules
 
-same_length : tie.Need-same-length
+same_length : tie.Need-shape_of-out
 same_length c = search rules
 
-returns-2 : tie.Need-returns-2
+returns-2 : tie.Need-returns
 returns-2 c =
     let p = c.before in
     let e = p.before.before in
-    rw (not-false e.before.args.made e.if1.false) p.put.ensures
+    rw (not-false e.before.args.made e.if-not-made.false) p.put.ensures
 
-pub emit-spec : {M : Type 1} → statement M
-emit-spec = tie.close (tie.spec returns put-requires same_length returns-2)
+pub emit_spec : {M : Type 1} → statement M
+emit_spec = tie.close (tie.spec returns put-requires same_length returns-2)

@@ -18,26 +18,26 @@ choice taps m {x} {y} {z} first rest = go (ltb m taps) refl
     go true e = rw e (first (ltb-true m taps e))
     go false e = rw e (rest (ltb-false m taps e))
 
-abbrev invariant-loop : tie.invariant-loop
+abbrev invariant-loop : tie.invariant-loop-n
 invariant-loop taps i q packed₀ n₀ packed n = (n ≤ taps) × Filled no_pair (pair_at i q) n packed₀ packed
 
-abbrev decreases-loop : tie.decreases-loop
+abbrev decreases-loop : tie.decreases-loop-n
 decreases-loop taps i q packed₀ n₀ packed n = taps - n
 
-loop-holds : tie.Need-loop-init invariant-loop decreases-loop
+loop-holds : tie.Need-loop-n-init invariant-loop decreases-loop
 loop-holds c = let a = c.before.before.args in (omega arith, filled_none no_pair (pair_at a.i.now a.q.now) a.line)
 
 -- ---- a turn: the numbers at its place are below 2^32
 
-module _ (t : tie.In-loop invariant-loop decreases-loop) where
+module _ (t : tie.In-loop-n invariant-loop decreases-loop) where
   abbrev start : tie.Start invariant-loop decreases-loop
   start = t.before.before.before.before
 
-  at_i : get_or start.args.i.now t.before.loop.n 0 < 4294967296
-  at_i = start.pre.1.small-i t.before.loop.n t.loop-test.taken
+  at_i : get_or start.args.i.now t.before.loop-n.n 0 < 4294967296
+  at_i = start.requires.1.small-i t.before.loop-n.n t.loop-n-test.taken
 
-  at-q : get_or start.args.q.now t.before.loop.n 0 < 4294967296
-  at-q = start.pre.1.small-q t.before.loop.n t.loop-test.taken
+  at-q : get_or start.args.q.now t.before.loop-n.n 0 < 4294967296
+  at-q = start.requires.1.small-q t.before.loop-n.n t.loop-n-test.taken
 
 -- lowered, such a number is one of 32 bits signed
 narrow-fits : (u : ℕ) {z : ℤ} → u < 4294967296 → z ≡ lowered u → SFits w32 (to_z w64 (of_z w64 z))
@@ -46,48 +46,48 @@ narrow-fits u h e = subst (λ (z : ℤ). SFits w32 (to_z w64 (of_z w64 z))) (sym
 narrow-is : (u : ℕ) {z : ℤ} → u < 4294967296 → z ≡ lowered u → to_z w32 (of_z w32 (to_z w64 (of_z w64 z))) ≡ lowered u
 narrow-is u h e = ap (λ (z : ℤ). to_z w32 (of_z w32 (to_z w64 (of_z w64 z)))) e ∙ narrowed tt (lowered-fits u h)
 
-mul-lower : tie.Need-overflow-mul-lower invariant-loop decreases-loop
+mul-lower : tie.Need-offset_bounds-i-n invariant-loop decreases-loop
 mul-lower c = search rules
 
-shared-slice-read-lower : tie.Need-shared-slice-read-lower invariant-loop decreases-loop
+shared-slice-read-lower : tie.Need-bounds-i-n invariant-loop decreases-loop
 shared-slice-read-lower c = omega arith
 
 lower-requires : tie.Need-lower-requires invariant-loop decreases-loop
 lower-requires c κs = at_i c.before
 
-cast-t12 : tie.Need-overflow-cast-t12 invariant-loop decreases-loop
+cast-t12 : tie.Need-overflow_cast-packed invariant-loop decreases-loop
 cast-t12 c = narrow-fits _ (at_i c.before.before) c.lower.ensures
 
-mul-lower-2 : tie.Need-overflow-mul-lower-2 invariant-loop decreases-loop
+mul-lower-2 : tie.Need-offset_bounds-q-n invariant-loop decreases-loop
 mul-lower-2 c = search rules
 
-shared-slice-read-lower-2 : tie.Need-shared-slice-read-lower-2 invariant-loop decreases-loop
+shared-slice-read-lower-2 : tie.Need-bounds-q-n invariant-loop decreases-loop
 shared-slice-read-lower-2 c = omega arith
 
-lower-requires-2 : tie.Need-lower-requires-2 invariant-loop decreases-loop
+lower-requires-2 : tie.Need-lower-requires-in-loop-n invariant-loop decreases-loop
 lower-requires-2 c κs = at-q c.before.before.before
 
-cast-t17 : tie.Need-overflow-cast-t17 invariant-loop decreases-loop
-cast-t17 c = narrow-fits _ (at-q c.before.before.before.before) c.lower2.ensures
+cast-t17 : tie.Need-overflow_cast-packed-in-loop-n invariant-loop decreases-loop
+cast-t17 c = narrow-fits _ (at-q c.before.before.before.before) c.lower-in-loop-n.ensures
 
-mul-packed : tie.Need-overflow-mul-packed invariant-loop decreases-loop
+mul-packed : tie.Need-offset_bounds-packed-n invariant-loop decreases-loop
 mul-packed c = search rules
 
-array-set-from-packed : tie.Need-array-set-from-packed invariant-loop decreases-loop
+array-set-from-packed : tie.Need-bounds-packed-n invariant-loop decreases-loop
 array-set-from-packed c = omega arith
 
-add-n : tie.Need-overflow-add-n invariant-loop decreases-loop
+add-n : tie.Need-overflow_add-n invariant-loop decreases-loop
 add-n c = search rules
 
-loop-less : tie.Need-loop-smaller invariant-loop decreases-loop
+loop-less : tie.Need-loop-n-smaller invariant-loop decreases-loop
 loop-less c = search rules
 
-loop-again : tie.Need-loop-preserved invariant-loop decreases-loop
+loop-again : tie.Need-loop-n-preserved invariant-loop decreases-loop
 loop-again c =
     let t = c.before.before.before.before in
     let l = t.before.loop in
     let i = narrow-is _ (at_i t) c.before.before.lower.ensures in
-    let q = narrow-is _ (at-q t) c.lower2.ensures in
+    let q = narrow-is _ (at-q t) c.lower-in-loop-n.ensures in
     rw (i, q) (omega arith, filled_next l.invariant.1 (omega arith))
 
 returns : tie.Need-returns invariant-loop decreases-loop
@@ -96,8 +96,8 @@ returns c =
     let l = c.before.loop in
     record { long = search rules; each = λ m. choice a.taps m (λ h. l.invariant.1.first m (omega arith)) (λ h. l.invariant.1.rest m (omega arith)) }
 
-pub pack-line-spec : {M : Type 1} → statement M
-pack-line-spec =
+pub pack_line_spec : {M : Type 1} → statement M
+pack_line_spec =
     tie.close
     (tie.spec
     invariant-loop

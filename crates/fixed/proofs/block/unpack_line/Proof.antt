@@ -8,49 +8,49 @@ use Rattle.fixed.proofs.Laying.{Laying, laying-none, laying-next, laying-all}
 use Rattle.fixed.proofs.block.unpack_line.Statement.{statement}
 use Rattle.fixed.proofs.block.unpack_line.Tie as tie
 
-abbrev invariant-loop : tie.invariant-loop
+abbrev invariant-loop : tie.invariant-loop-n
 invariant-loop taps i₀ q₀ line n₀ i q n = (n ≤ taps) × (Laying (λ m. (get_or line m no_pair).i) n i × Laying (λ m. (get_or line m no_pair).q) n q)
 
-abbrev decreases-loop : tie.decreases-loop
+abbrev decreases-loop : tie.decreases-loop-n
 decreases-loop taps i₀ q₀ line n₀ i q n = taps - n
 
-loop-holds : tie.Need-loop-init invariant-loop decreases-loop
+loop-holds : tie.Need-loop-n-init invariant-loop decreases-loop
 loop-holds c =
     let a = c.before.before.args in
     let line = a.t1 in
     (omega arith, (laying-none (λ m. (get_or line m no_pair).i) a.i.now (omega arith), laying-none (λ m. (get_or line m no_pair).q) a.q.now (omega arith)))
 
-mul-m : tie.Need-overflow-mul-m invariant-loop decreases-loop
+mul-m : tie.Need-offset_bounds-line-n invariant-loop decreases-loop
 mul-m c = search rules
 
-array-copy-out-m : tie.Need-array-copy-out-m invariant-loop decreases-loop
+array-copy-out-m : tie.Need-bounds-line-n invariant-loop decreases-loop
 array-copy-out-m c = omega arith
 
 raise-requires : tie.Need-raise-requires invariant-loop decreases-loop
 raise-requires c κs = search rules
 
-mul-i : tie.Need-overflow-mul-i invariant-loop decreases-loop
+mul-i : tie.Need-offset_bounds-i-n invariant-loop decreases-loop
 mul-i c = search rules
 
-slice-write-i : tie.Need-slice-write-i invariant-loop decreases-loop
+slice-write-i : tie.Need-bounds-i-n invariant-loop decreases-loop
 slice-write-i c = omega arith
 
-raise-requires-2 : tie.Need-raise-requires-2 invariant-loop decreases-loop
+raise-requires-2 : tie.Need-raise-requires-in-loop-n invariant-loop decreases-loop
 raise-requires-2 c κs = search rules
 
-mul-q : tie.Need-overflow-mul-q invariant-loop decreases-loop
+mul-q : tie.Need-offset_bounds-q-n invariant-loop decreases-loop
 mul-q c = search rules
 
-slice-write-q : tie.Need-slice-write-q invariant-loop decreases-loop
+slice-write-q : tie.Need-bounds-q-n invariant-loop decreases-loop
 slice-write-q c = omega arith
 
-add-n : tie.Need-overflow-add-n invariant-loop decreases-loop
+add-n : tie.Need-overflow_add-n invariant-loop decreases-loop
 add-n c = search rules
 
-loop-less : tie.Need-loop-smaller invariant-loop decreases-loop
+loop-less : tie.Need-loop-n-smaller invariant-loop decreases-loop
 loop-less c = search rules
 
-loop-again : tie.Need-loop-preserved invariant-loop decreases-loop
+loop-again : tie.Need-loop-n-preserved invariant-loop decreases-loop
 loop-again c =
     let first = c.before.before in
     let l = first.before.before.before.before.loop in
@@ -66,10 +66,10 @@ loop-again c =
       ),
     )
 
-same_length : tie.Need-same-length invariant-loop decreases-loop
+same_length : tie.Need-shape_of-i invariant-loop decreases-loop
 same_length c = omega arith
 
-same-length-2 : tie.Need-same-length-2 invariant-loop decreases-loop
+same-length-2 : tie.Need-shape_of-q invariant-loop decreases-loop
 same-length-2 c = omega arith
 
 returns : tie.Need-returns invariant-loop decreases-loop
@@ -85,8 +85,8 @@ returns c =
       },
     )
 
-pub unpack-line-spec : {M : Type 1} → statement M
-unpack-line-spec =
+pub unpack_line_spec : {M : Type 1} → statement M
+unpack_line_spec =
     tie.close
     (tie.spec
     invariant-loop

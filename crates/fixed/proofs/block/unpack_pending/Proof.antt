@@ -7,43 +7,43 @@ use Rattle.arith.proofs.Filled.{Filled, filled_none, filled_next}
 use Rattle.fixed.proofs.block.unpack_pending.Statement.{statement}
 use Rattle.fixed.proofs.block.unpack_pending.Tie as tie
 
-abbrev invariant-loop : tie.invariant-loop
+abbrev invariant-loop : tie.invariant-loop-n
 invariant-loop e₀ err₀ pending n₀ e err n =
     (n ≤ ring_places) × Filled (pos 0) (λ m. (get_or pending m no_pending).e) n e₀ e × Filled (pos 0) (λ m. (get_or pending m no_pending).err) n err₀ err
 
-abbrev decreases-loop : tie.decreases-loop
+abbrev decreases-loop : tie.decreases-loop-n
 decreases-loop e₀ err₀ pending n₀ e err n = ring_places - n
 
-loop-holds : tie.Need-loop-init invariant-loop decreases-loop
+loop-holds : tie.Need-loop-n-init invariant-loop decreases-loop
 loop-holds c =
     let a = c.args in
     (omega arith, filled_none (pos 0) (λ m. (get_or a.t1 m no_pending).e) a.e.now, filled_none (pos 0) (λ m. (get_or a.t1 m no_pending).err) a.err.now)
 
-mul-m : tie.Need-overflow-mul-m invariant-loop decreases-loop
+mul-m : tie.Need-offset_bounds-pending-n invariant-loop decreases-loop
 mul-m c = search rules
 
-array-copy-out-m : tie.Need-array-copy-out-m invariant-loop decreases-loop
+array-copy-out-m : tie.Need-bounds-pending-n invariant-loop decreases-loop
 array-copy-out-m c = search rules
 
-mul-a : tie.Need-overflow-mul-a invariant-loop decreases-loop
+mul-a : tie.Need-offset_bounds-e-n invariant-loop decreases-loop
 mul-a c = search rules
 
-slice-set-from-a : tie.Need-slice-set-from-a invariant-loop decreases-loop
+slice-set-from-a : tie.Need-bounds-e-n invariant-loop decreases-loop
 slice-set-from-a c = omega arith
 
-mul-b : tie.Need-overflow-mul-b invariant-loop decreases-loop
+mul-b : tie.Need-offset_bounds-err-n invariant-loop decreases-loop
 mul-b c = search rules
 
-slice-set-from-b : tie.Need-slice-set-from-b invariant-loop decreases-loop
+slice-set-from-b : tie.Need-bounds-err-n invariant-loop decreases-loop
 slice-set-from-b c = omega arith
 
-add-n : tie.Need-overflow-add-n invariant-loop decreases-loop
+add-n : tie.Need-overflow_add-n invariant-loop decreases-loop
 add-n c = search rules
 
-loop-less : tie.Need-loop-smaller invariant-loop decreases-loop
+loop-less : tie.Need-loop-n-smaller invariant-loop decreases-loop
 loop-less c = search rules
 
-loop-again : tie.Need-loop-preserved invariant-loop decreases-loop
+loop-again : tie.Need-loop-n-preserved invariant-loop decreases-loop
 loop-again c =
     let a = c.before.before.before.before.before.args in
     let l = c.before.before.before.before.loop in
@@ -51,11 +51,11 @@ loop-again c =
     simp (held w32 m.e (search rules), held w32 m.err (search rules))
     (omega arith, filled_next l.invariant.1 (omega arith), filled_next l.invariant.2 (omega arith))
 
-same_length : tie.Need-same-length invariant-loop decreases-loop
-same_length c = c.before.loop.invariant.1.long
+same_length : tie.Need-shape_of-e invariant-loop decreases-loop
+same_length c = c.before.loop-n.invariant.1.long
 
-same-length-2 : tie.Need-same-length-2 invariant-loop decreases-loop
-same-length-2 c = c.before.loop.invariant.2.long
+same-length-2 : tie.Need-shape_of-err invariant-loop decreases-loop
+same-length-2 c = c.before.loop-n.invariant.2.long
 
 returns : tie.Need-returns invariant-loop decreases-loop
 returns c =
@@ -67,8 +67,8 @@ returns c =
       each = λ m h. sym (λ i. record { e = l.invariant.1.first m (omega arith) i; err = l.invariant.2.first m (omega arith) i });
     }
 
-pub unpack-pending-spec : {M : Type 1} → statement M
-unpack-pending-spec =
+pub unpack_pending_spec : {M : Type 1} → statement M
+unpack_pending_spec =
     tie.close
     (tie.spec
     invariant-loop

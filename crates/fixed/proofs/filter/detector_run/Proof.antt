@@ -8,20 +8,20 @@ use Rattle.fixed.proofs.RowSums.{Added, added_none, added_more, added-upto, adde
 use Rattle.fixed.proofs.filter.detector_run.Statement.{statement}
 use Rattle.fixed.proofs.filter.detector_run.Tie as tie
 
-abbrev invariant-loop : tie.invariant-loop
+abbrev invariant-loop : tie.invariant-loop-n
 invariant-loop h g i q a₀ b₀ n₀ a b n = (n ≤ length h) × (Added h i q n a₀ a × Added g i q n b₀ b)
 
-abbrev decreases-loop : tie.decreases-loop
+abbrev decreases-loop : tie.decreases-loop-n
 decreases-loop h g i q a₀ b₀ n₀ a b n = length h - n
 
-loop-holds : tie.Need-loop-init invariant-loop decreases-loop
+loop-holds : tie.Need-loop-n-init invariant-loop decreases-loop
 loop-holds c =
     let a = c.before.before.before.before.args in
     (omega arith, (added_none a.h.now a.i.now a.q.now a.before.h, added_none a.g.now a.i.now a.q.now a.before.g))
 
 -- ---- a turn
 
-module _ (b : tie.At-loop invariant-loop decreases-loop) where
+module _ (b : tie.At-loop-n invariant-loop decreases-loop) where
   abbrev start : tie.Start invariant-loop decreases-loop
   start = b.before.before.before.before.before
 
@@ -38,33 +38,33 @@ module _ (b : tie.At-loop invariant-loop decreases-loop) where
   q = start.args.q.now
 
   as_long : length g ≡ length h
-  as_long = start.pre.0.1.1
+  as_long = start.requires.0.1.1
 
   -- there is a tap left: its coefficients and its numbers are small
-  module _ (left : b.loop.n < length h) where
-    few : b.loop.n < 64
-    few = omega (arith, start.pre.0.0.short)
+  module _ (left : b.loop-n.n < length h) where
+    few : b.loop-n.n < 64
+    few = omega (arith, start.requires.0.0.short)
 
-    left-g : b.loop.n < length g
+    left-g : b.loop-n.n < length g
     left-g = omega (arith, as_long)
 
-    h-each : nat_abs (get_or h b.loop.n (pos 0)) ≤ 131071
-    h-each = light-each start.pre.0.0 b.loop.n left
+    h-each : nat_abs (get_or h b.loop-n.n (pos 0)) ≤ 131071
+    h-each = light-each start.requires.0.0 b.loop-n.n left
 
-    g-each : nat_abs (get_or g b.loop.n (pos 0)) ≤ 131071
-    g-each = light-each start.pre.0.1.0 b.loop.n left-g
+    g-each : nat_abs (get_or g b.loop-n.n (pos 0)) ≤ 131071
+    g-each = light-each start.requires.0.1.0 b.loop-n.n left-g
 
-    at_i : get_or i b.loop.n 0 < 4294967296
-    at_i = start.pre.1.0.small-i b.loop.n left
+    at_i : get_or i b.loop-n.n 0 < 4294967296
+    at_i = start.requires.1.0.small-i b.loop-n.n left
 
-    at-q : get_or q b.loop.n 0 < 4294967296
-    at-q = start.pre.1.0.small-q b.loop.n left
+    at-q : get_or q b.loop-n.n 0 < 4294967296
+    at-q = start.requires.1.0.small-q b.loop-n.n left
 
-    h-so-far : SumsUpto 128 b.loop.a
-    h-so-far = sums-wider (omega (arith, few)) (added-upto b.loop.inv.1.0 64 start.pre.1.1.h)
+    h-so-far : SumsUpto 128 b.loop-n.a
+    h-so-far = sums-wider (omega (arith, few)) (added-upto b.loop-n.invariant.1.0 64 start.requires.1.1.h)
 
-    g-so-far : SumsUpto 128 b.loop.b
-    g-so-far = sums-wider (omega (arith, few)) (added-upto b.loop.inv.1.1 64 start.pre.1.1.g)
+    g-so-far : SumsUpto 128 b.loop-n.b
+    g-so-far = sums-wider (omega (arith, few)) (added-upto b.loop-n.invariant.1.1 64 start.requires.1.1.g)
 
 -- a number of the line, as it is handed on
 handed : (u : ℕ) {z : ℤ} → u < 4294967296 → z ≡ lowered u → to_z w64 (of_z w64 z) ≡ lowered u
@@ -73,86 +73,86 @@ handed u h e = ap (λ (z : ℤ). to_z w64 (of_z w64 z)) e ∙ back w64 (lowered 
 handed-small : (u : ℕ) {z : ℤ} → u < 4294967296 → z ≡ lowered u → nat_abs (to_z w64 (of_z w64 z)) ≤ 2147483648
 handed-small u h e = rw (handed u h e) (lowered-small u h)
 
-mul-lower : tie.Need-overflow-mul-lower invariant-loop decreases-loop
+mul-lower : tie.Need-offset_bounds-i-n invariant-loop decreases-loop
 mul-lower c = search rules
 
-shared-slice-read-lower : tie.Need-shared-slice-read-lower invariant-loop decreases-loop
+shared-slice-read-lower : tie.Need-bounds-i-n invariant-loop decreases-loop
 shared-slice-read-lower c = let b = c.before.before in omega (arith, (start b).requires.1.0.long-i)
 
-lower-requires : tie.Need-lower-requires invariant-loop decreases-loop
-lower-requires c κs = let t = c.before in at_i t.before t.loop-test.true
+lower-requires : tie.Need-lower-x-requires invariant-loop decreases-loop
+lower-requires c κs = let t = c.before in at_i t.before t.loop-n-test.true
 
-mul-lower-2 : tie.Need-overflow-mul-lower-2 invariant-loop decreases-loop
+mul-lower-2 : tie.Need-offset_bounds-q-n invariant-loop decreases-loop
 mul-lower-2 c = search rules
 
-shared-slice-read-lower-2 : tie.Need-shared-slice-read-lower-2 invariant-loop decreases-loop
+shared-slice-read-lower-2 : tie.Need-bounds-q-n invariant-loop decreases-loop
 shared-slice-read-lower-2 c = let b = c.before.before.before.before in omega (arith, (start b).requires.1.0.long-q)
 
-lower-requires-2 : tie.Need-lower-requires-2 invariant-loop decreases-loop
-lower-requires-2 c κs = let t = c.before.before.before in at-q t.before t.loop-test.true
+lower-requires-2 : tie.Need-lower-y-requires invariant-loop decreases-loop
+lower-requires-2 c κs = let t = c.before.before.before in at-q t.before t.loop-n-test.true
 
-mul-with-products : tie.Need-overflow-mul-with-products invariant-loop decreases-loop
+mul-with-products : tie.Need-offset_bounds-h-n invariant-loop decreases-loop
 mul-with-products c = search rules
 
-shared-slice-copy-out-with-products : tie.Need-shared-slice-copy-out-with-products invariant-loop decreases-loop
+shared-slice-copy-out-with-products : tie.Need-bounds-h-n invariant-loop decreases-loop
 shared-slice-copy-out-with-products c = search rules
 
-with-products-requires : tie.Need-with-products-requires invariant-loop decreases-loop
+with-products-requires : tie.Need-with_products-a-requires invariant-loop decreases-loop
 with-products-requires c κs =
     let t = c.before.before.before.before.before in
     let b = t.before in
-    let left = t.loop-test.true in
-    let z = get_or (h b) b.loop.n (pos 0) in
-    let small : nat_abs (to_z w32 (of_z w32 z)) ≤ 131071 = rw (held w32 z c.with-products-arg.given) (h-each b left) in
-    let x = handed-small (get_or (i b) b.loop.n 0) (at_i b left) c.before.before.before.lower.ensures in
-    let y = handed-small (get_or (q b) b.loop.n 0) (at-q b left) c.before.lower2.ensures in
+    let left = t.loop-n-test.true in
+    let z = get_or (h b) b.loop-n.n (pos 0) in
+    let small : nat_abs (to_z w32 (of_z w32 z)) ≤ 131071 = rw (held w32 z c.with_products-arg-1.given) (h-each b left) in
+    let x = handed-small (get_or (i b) b.loop-n.n 0) (at_i b left) c.before.before.before.lower-x.ensures in
+    let y = handed-small (get_or (q b) b.loop-n.n 0) (at-q b left) c.before.lower-y.ensures in
     (h-so-far b left, (small, (x, y)))
 
-mul-with-products-2 : tie.Need-overflow-mul-with-products-2 invariant-loop decreases-loop
+mul-with-products-2 : tie.Need-offset_bounds-g-n invariant-loop decreases-loop
 mul-with-products-2 c = search rules
 
 shared-slice-copy-out-with-products-2 :
-    tie.Need-shared-slice-copy-out-with-products-2 invariant-loop decreases-loop
+    tie.Need-bounds-g-n invariant-loop decreases-loop
 shared-slice-copy-out-with-products-2 c =
     let t = c.before.before.before.before.before.before in
-    left-g t.before t.loop-test.true
+    left-g t.before t.loop-n-test.true
 
-with-products-requires-2 : tie.Need-with-products-requires-2 invariant-loop decreases-loop
+with-products-requires-2 : tie.Need-with_products-b-requires invariant-loop decreases-loop
 with-products-requires-2 c κs =
     let t = c.before.before.before.before.before.before.before in
     let b = t.before in
-    let left = t.loop-test.true in
-    let z = get_or (g b) b.loop.n (pos 0) in
-    let small : nat_abs (to_z w32 (of_z w32 z)) ≤ 131071 = rw (held w32 z c.with-products-arg2.given) (g-each b left) in
-    let x = handed-small (get_or (i b) b.loop.n 0) (at_i b left) c.before.before.before.before.before.lower.ensures in
-    let y = handed-small (get_or (q b) b.loop.n 0) (at-q b left) c.before.before.before.lower2.ensures in
+    let left = t.loop-n-test.true in
+    let z = get_or (g b) b.loop-n.n (pos 0) in
+    let small : nat_abs (to_z w32 (of_z w32 z)) ≤ 131071 = rw (held w32 z c.with_products-arg-in-loop-n-1.given) (g-each b left) in
+    let x = handed-small (get_or (i b) b.loop-n.n 0) (at_i b left) c.before.before.before.before.before.lower-x.ensures in
+    let y = handed-small (get_or (q b) b.loop-n.n 0) (at-q b left) c.before.before.before.lower-y.ensures in
     (g-so-far b left, (small, (x, y)))
 
-add-n : tie.Need-overflow-add-n invariant-loop decreases-loop
+add-n : tie.Need-overflow_add-n invariant-loop decreases-loop
 add-n c =
     let t = c.before.before.before.before.before.before.before.before in
-    record { fits = omega (arith, few t.before t.loop-test.true) }
+    record { fits = omega (arith, few t.before t.loop-n-test.true) }
 
-loop-less : tie.Need-loop-smaller invariant-loop decreases-loop
+loop-less : tie.Need-loop-n-smaller invariant-loop decreases-loop
 loop-less c = search rules
 
-loop-again : tie.Need-loop-preserved invariant-loop decreases-loop
+loop-again : tie.Need-loop-n-preserved invariant-loop decreases-loop
 loop-again c =
     let first = c.before.before in
     let lowered-q = first.before.before in
     let lowered-i = lowered-q.before.before in
     let t = lowered-i.before.before in
     let b = t.before in
-    let left = t.loop-test.true in
-    let x = handed (get_or (i b) b.loop.n 0) (at_i b left) lowered-i.lower.ensures in
-    let y = handed (get_or (q b) b.loop.n 0) (at-q b left) lowered-q.lower2.ensures in
-    let in-h = simp (held w32 (get_or (h b) b.loop.n (pos 0)) first.before.with-products-arg.given, x, y) at first.with-products.ensures in
-    let in_g = simp (held w32 (get_or (g b) b.loop.n (pos 0)) c.before.with-products-arg2.given, x, y) at c.with-products2.ensures in
+    let left = t.loop-n-test.true in
+    let x = handed (get_or (i b) b.loop-n.n 0) (at_i b left) lowered-i.lower-x.ensures in
+    let y = handed (get_or (q b) b.loop-n.n 0) (at-q b left) lowered-q.lower-y.ensures in
+    let in-h = simp (held w32 (get_or (h b) b.loop-n.n (pos 0)) first.before.with_products-arg-1.given, x, y) at first.with_products-a.ensures in
+    let in_g = simp (held w32 (get_or (g b) b.loop-n.n (pos 0)) c.before.with_products-arg-in-loop-n-1.given, x, y) at c.with_products-b.ensures in
     rw (in-h, in_g) (
       omega (arith, left),
       (
-        added_more (h-each b left) (at_i b left) (at-q b left) b.loop.invariant.1.0,
-        added_more (g-each b left) (at_i b left) (at-q b left) b.loop.invariant.1.1,
+        added_more (h-each b left) (at_i b left) (at-q b left) b.loop-n.invariant.1.0,
+        added_more (g-each b left) (at_i b left) (at-q b left) b.loop-n.invariant.1.1,
       ),
     )
 
@@ -161,7 +161,7 @@ returns c =
     let b = c.before in
     let a = (start b).args in
     let l = b.loop in
-    let e : l.n ≡ length (h b) = omega (arith, l.invariant.0, c.loop-test.false) in
+    let e : l.n ≡ length (h b) = omega (arith, l.invariant.0, c.loop-n-test.false) in
     let f : l.n ≡ length (g b) = e ∙ sym (as_long b) in
     let in-h = subst (λ (n : ℕ). Added (h b) (i b) (q b) n a.before.h l.a) e l.invariant.1.0 in
     let in_g = subst (λ (n : ℕ). Added (g b) (i b) (q b) n a.before.g l.b) f l.invariant.1.1 in
@@ -169,8 +169,8 @@ returns c =
     λ n u. subst (λ (m : ℕ). SumsUpto (n + m) l.b) (as_long b) (added-upto in_g n u) in
     record { of-h = added-all in-h; of-g = added-all in_g; few = λ n u. record { h = added-upto in-h n u.h; g = few-g n u.g } }
 
-pub detector-run-spec : {M : Type 1} → statement M
-detector-run-spec =
+pub detector_run_spec : {M : Type 1} → statement M
+detector_run_spec =
     tie.close
     (tie.spec
     invariant-loop

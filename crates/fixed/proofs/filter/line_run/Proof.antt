@@ -15,7 +15,7 @@ use Rattle.fixed.proofs.filter.line_run.Tie as tie
 
 -- ---- the run and its share of the detector's places
 
-module _ (c : tie.After-clamped2) where
+module _ (c : tie.After-clamped-end) where
   abbrev start : tie.Start
   start = c.before.before.before.before.before
 
@@ -44,33 +44,33 @@ module _ (c : tie.After-clamped2) where
   q = start.args.q.now
 
   abbrev lent : Filterable h g k i q
-  lent = start.pre.0.0
+  lent = start.requires.0.0
 
   short : length k ≤ 64
   short = lent.row-k.short
 
   in_row : from + count ≤ length k
-  in_row = start.pre.1.0
+  in_row = start.requires.1.0
 
   in-line : place + count ≤ length k
-  in-line = start.pre.1.1
+  in-line = start.requires.1.1
 
   -- Where the share begins, and where it ends.
   abbrev begin : ℕ
-  begin = c.before.clamped.result
+  begin = c.before.clamped-begin.result
 
   abbrev end : ℕ
-  end = c.clamped2.result
+  end = c.clamped-end.result
 
   share : (row : List ℤ) → length row ≡ length k → Share (low row) (low row + wide row) from (from + count) begin end
   share row e =
-      let d = c.before.before.detector-of.ensures in
-      let at_low : c.before.before.detector-of.result.low ≡ low row = d.0 ∙ ap (λ (n : ℕ). (n - 8) / 2) (sym e) in
-      let at_high : c.before.before.detector-of.result.high ≡ low row + wide row = d.1 ∙ (λ t. at_low t + min 8 (sym e t)) in
+      let d = c.before.before.detector_of-d.ensures in
+      let at_low : c.before.before.detector_of-d.result.low ≡ low row = d.0 ∙ ap (λ (n : ℕ). (n - 8) / 2) (sym e) in
+      let at_high : c.before.before.detector_of-d.result.high ≡ low row + wide row = d.1 ∙ (λ t. at_low t + min 8 (sym e t)) in
       let begins : min (max (low row) from) (from + count) ≡ begin =
-      sym (c.before.clamped.ensures ∙ ap (λ (n : ℕ). min (max n from) (from + count)) at_low) in
+      sym (c.before.clamped-begin.ensures ∙ ap (λ (n : ℕ). min (max n from) (from + count)) at_low) in
       let ends : min (max (low row + wide row) from) (from + count) ≡ end =
-      sym (c.clamped2.ensures ∙ ap (λ (n : ℕ). min (max n from) (from + count)) at_high) in
+      sym (c.clamped-end.ensures ∙ ap (λ (n : ℕ). min (max n from) (from + count)) at_high) in
       subst (λ (n : ℕ). Share (low row) (low row + wide row) from (from + count) n end) begins
       (subst (λ (n : ℕ). Share (low row) (low row + wide row) from (from + count) (min (max (low row) from) (from + count)) n) ends
       (share-is (low row) (low row + wide row) from (from + count) (omega arith) (omega arith)))
@@ -127,82 +127,82 @@ module _ (c : tie.After-clamped2) where
   run_long : length (take count (drop from k)) ≡ count
   run_long = length-take-le count (drop from k) (omega (arith, length-drop from k, in_row))
 
-add-to : tie.Need-overflow-add-to
+add-to : tie.Need-overflow_add-to
 add-to c = search rules
 
-add-stop : tie.Need-overflow-add-stop
+add-stop : tie.Need-overflow_add-stop
 add-stop c = search rules
 
-detector-of-requires : tie.Need-detector-of-requires
+detector-of-requires : tie.Need-detector_of-d-requires
 detector-of-requires c κs = search rules
 
-clamped-requires : tie.Need-clamped-requires
+clamped-requires : tie.Need-clamped-begin-requires
 clamped-requires c κs = search rules
 
-clamped-requires-2 : tie.Need-clamped-requires-2
+clamped-requires-2 : tie.Need-clamped-end-requires
 clamped-requires-2 c κs = search rules
 
-sub-begin-at : tie.Need-overflow-sub-begin-at
+sub-begin-at : tie.Need-overflow_sub-begin_at
 sub-begin-at c = search rules
 
-add-begin-at : tie.Need-overflow-add-begin-at
+add-begin-at : tie.Need-overflow_add-begin_at
 add-begin-at c = record { fits = omega (arith, short c, in_row c, in-line c, starts c, stops c, ordered c) }
 
-sub-end-at : tie.Need-overflow-sub-end-at
+sub-end-at : tie.Need-overflow_sub-end_at
 sub-end-at c = search rules
 
-add-end-at : tie.Need-overflow-add-end-at
+add-end-at : tie.Need-overflow_add-end_at
 add-end-at c = record { fits = omega (arith, short c, in_row c, in-line c, starts c, stops c, ordered c) }
 
-mul-detector-run : tie.Need-overflow-mul-detector-run
+mul-detector-run : tie.Need-offset_bounds-h-begin
 mul-detector-run c = search rules
 
-sub-detector-run : tie.Need-overflow-sub-detector-run
+sub-detector-run : tie.Need-slice_bounds-detector_run-count
 sub-detector-run c = search rules
 
-part-detector-run-start : tie.Need-slice-bounds-detector-run-start
+part-detector-run-start : tie.Need-slice_bounds-detector_run-start
 part-detector-run-start c = search rules
 
-part-detector-run-end : tie.Need-slice-bounds-detector-run-end
+part-detector-run-end : tie.Need-slice_bounds-detector_run-end
 part-detector-run-end c = search rules
 
-mul-detector-run-2 : tie.Need-overflow-mul-detector-run-2
+mul-detector-run-2 : tie.Need-offset_bounds-g-begin
 mul-detector-run-2 c = let b = c.before in record { fits = omega (arith, short b, in_row b, in-line b, starts b, stops b, ordered b) }
 
-sub-detector-run-2 : tie.Need-overflow-sub-detector-run-2
+sub-detector-run-2 : tie.Need-slice_bounds-detector_run-count-2
 sub-detector-run-2 c = ordered c.before
 
-part-detector-run-start-2 : tie.Need-slice-bounds-detector-run-start-2
+part-detector-run-start-2 : tie.Need-slice_bounds-detector_run-start-2
 part-detector-run-start-2 c = ordered c.before
 
-part-detector-run-end-2 : tie.Need-slice-bounds-detector-run-end-2
+part-detector-run-end-2 : tie.Need-slice_bounds-detector_run-end-2
 part-detector-run-end-2 c = let b = c.before in omega (arith, stops b, in_row b, (lent b).long-g)
 
-mul-detector-run-3 : tie.Need-overflow-mul-detector-run-3
+mul-detector-run-3 : tie.Need-offset_bounds-i-begin_at
 mul-detector-run-3 c = let b = c.before.before in record { fits = omega (arith, short b, in_row b, in-line b, starts b, stops b, ordered b) }
 
-sub-detector-run-3 : tie.Need-overflow-sub-detector-run-3
+sub-detector-run-3 : tie.Need-slice_bounds-detector_run-count-3
 sub-detector-run-3 c = let b = c.before.before in omega (arith, ordered b)
 
-part-detector-run-start-3 : tie.Need-slice-bounds-detector-run-start-3
+part-detector-run-start-3 : tie.Need-slice_bounds-detector_run-start-3
 part-detector-run-start-3 c = let b = c.before.before in omega (arith, ordered b)
 
-part-detector-run-end-3 : tie.Need-slice-bounds-detector-run-end-3
+part-detector-run-end-3 : tie.Need-slice_bounds-detector_run-end-3
 part-detector-run-end-3 c = let b = c.before.before in omega (arith, starts b, stops b, in-line b, short b, (lent b).line.long-i)
 
-mul-detector-run-4 : tie.Need-overflow-mul-detector-run-4
+mul-detector-run-4 : tie.Need-offset_bounds-q-begin_at
 mul-detector-run-4 c = let b = c.before.before.before in record { fits = omega (arith, short b, in_row b, in-line b, starts b, stops b, ordered b) }
 
-sub-detector-run-4 : tie.Need-overflow-sub-detector-run-4
+sub-detector-run-4 : tie.Need-slice_bounds-detector_run-count-4
 sub-detector-run-4 c = let b = c.before.before.before in omega (arith, ordered b)
 
-part-detector-run-start-4 : tie.Need-slice-bounds-detector-run-start-4
+part-detector-run-start-4 : tie.Need-slice_bounds-detector_run-start-4
 part-detector-run-start-4 c = let b = c.before.before.before in omega (arith, ordered b)
 
-part-detector-run-end-4 : tie.Need-slice-bounds-detector-run-end-4
+part-detector-run-end-4 : tie.Need-slice_bounds-detector_run-end-4
 part-detector-run-end-4 c = let b = c.before.before.before in omega (arith, starts b, stops b, in-line b, short b, (lent b).line.long-q)
 
-detector-run-requires : tie.Need-detector-run-requires
+detector-run-requires : tie.Need-detector_run-detected-requires
 detector-run-requires c κs =
     let b = c.before.before.before.before in
     let n = end b - begin b in (
@@ -213,43 +213,43 @@ detector-run-requires c κs =
       (rw (part-long b (h b) (lent b).long-h, as_many b) (share-beside b), (start b).requires.0.1.detected),
     )
 
-mul-output-run : tie.Need-overflow-mul-output-run
+mul-output-run : tie.Need-offset_bounds-k-from
 mul-output-run c = search rules
 
-sub-output-run : tie.Need-overflow-sub-output-run
+sub-output-run : tie.Need-slice_bounds-output_run-count
 sub-output-run c = search rules
 
-part-output-run-start : tie.Need-slice-bounds-output-run-start
+part-output-run-start : tie.Need-slice_bounds-output_run-start
 part-output-run-start c = search rules
 
-part-output-run-end : tie.Need-slice-bounds-output-run-end
+part-output-run-end : tie.Need-slice_bounds-output_run-end
 part-output-run-end c = search rules
 
-mul-output-run-2 : tie.Need-overflow-mul-output-run-2
+mul-output-run-2 : tie.Need-offset_bounds-i-place
 mul-output-run-2 c = search rules
 
-sub-output-run-2 : tie.Need-overflow-sub-output-run-2
+sub-output-run-2 : tie.Need-slice_bounds-output_run-count-2
 sub-output-run-2 c = search rules
 
-part-output-run-start-2 : tie.Need-slice-bounds-output-run-start-2
+part-output-run-start-2 : tie.Need-slice_bounds-output_run-start-2
 part-output-run-start-2 c = search rules
 
-part-output-run-end-2 : tie.Need-slice-bounds-output-run-end-2
+part-output-run-end-2 : tie.Need-slice_bounds-output_run-end-2
 part-output-run-end-2 c = let b = c.before.before.before.before.before.before in omega (arith, in-line b, short b, (lent b).line.long-i)
 
-mul-output-run-3 : tie.Need-overflow-mul-output-run-3
+mul-output-run-3 : tie.Need-offset_bounds-q-place
 mul-output-run-3 c = search rules
 
-sub-output-run-3 : tie.Need-overflow-sub-output-run-3
+sub-output-run-3 : tie.Need-slice_bounds-output_run-count-3
 sub-output-run-3 c = search rules
 
-part-output-run-start-3 : tie.Need-slice-bounds-output-run-start-3
+part-output-run-start-3 : tie.Need-slice_bounds-output_run-start-3
 part-output-run-start-3 c = search rules
 
-part-output-run-end-3 : tie.Need-slice-bounds-output-run-end-3
+part-output-run-end-3 : tie.Need-slice_bounds-output_run-end-3
 part-output-run-end-3 c = let b = c.before.before.before.before.before.before.before in omega (arith, in-line b, short b, (lent b).line.long-q)
 
-output-run-requires : tie.Need-output-run-requires
+output-run-requires : tie.Need-output_run-requires
 output-run-requires c κs =
     let b = c.before.before.before.before.before.before.before.before in (
       rw (all-to b) (row-take (count b) (row_drop (from b) (lent b).row-k)),
@@ -260,8 +260,8 @@ returns : tie.Need-returns
 returns c =
     let r = c.before.before.before.before in
     let b = r.before.before.before.before.before in
-    let d = r.detector-run.ensures in
-    let o = c.output-run.ensures in
+    let d = r.detector_run-detected.ensures in
+    let o = c.output_run.ensures in
     let before = (start b).args.before in
     let in-h = rw (as_many b) at d.of-h in
     let in_g = rw (as_many b) at d.of-g in
@@ -281,8 +281,8 @@ returns c =
           };
     }
 
-pub line-run-spec : {M : Type 1} → statement M
-line-run-spec =
+pub line_run_spec : {M : Type 1} → statement M
+line_run_spec =
     tie.close
     (tie.spec
     add-to

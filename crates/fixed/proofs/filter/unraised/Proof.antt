@@ -52,50 +52,50 @@ module _ (u v : ℕ) (hu : u ≤ 64 * 2 ^ 50) (hv : v ≤ 64 * 2 ^ 32) where
 
 -- ---- the code
 
-cast-raised : tie.Need-overflow-cast-raised
+cast-raised : tie.Need-overflow_cast-raised
 cast-raised c =
     let s = c.before.before.args.s in
     let h = c.before.before.requires.coefficients in
     rw (back w32 s.coefficients (omega arith)) (sfit {z = s.coefficients} (omega arith))
 
-mul-raised : tie.Need-overflow-mul-raised
+mul-raised : tie.Need-overflow_mul-raised
 mul-raised c =
     let s = c.before.before.args.s in
     let h = c.before.before.requires.coefficients in
     rw (coefficients-is s.coefficients h) (sfit {z = s.coefficients *ℤ pos 2147483648} (omega (arith, raised-small s.coefficients h)))
 
-cast-t3 : tie.Need-overflow-cast-t3
+cast-t3 : tie.Need-overflow_cast-result
 cast-t3 c = search rules
 
-mul-t4 : tie.Need-overflow-mul-t4
+mul-t4 : tie.Need-overflow_mul-result
 mul-t4 c = search rules
 
-cast-t5 : tie.Need-overflow-cast-t5
+cast-t5 : tie.Need-overflow_cast-result-2
 cast-t5 c = search rules
 
-sub-t6 : tie.Need-overflow-sub-t6
+sub-t6 : tie.Need-overflow_sub-result
 sub-t6 c = let a = c.before.before.before.before in lifted-fits a.args.s.i a.args.s.line_i a.requires.i a.requires.line-i
 
-sub-t7 : tie.Need-overflow-sub-t7
+sub-t7 : tie.Need-overflow_sub-result-2
 sub-t7 c =
     let a = c.before.before.before.before in
     let s = a.args.s in
     rw (rest-is s.i s.line_i a.requires.i a.requires.line-i s.coefficients a.requires.coefficients)
     (rest-fits s.i s.line_i a.requires.i a.requires.line-i s.coefficients a.requires.coefficients)
 
-cast-t8 : tie.Need-overflow-cast-t8
+cast-t8 : tie.Need-overflow_cast-result-3
 cast-t8 c = search rules
 
-mul-t9 : tie.Need-overflow-mul-t9
+mul-t9 : tie.Need-overflow_mul-result-2
 mul-t9 c = search rules
 
-cast-t10 : tie.Need-overflow-cast-t10
+cast-t10 : tie.Need-overflow_cast-result-4
 cast-t10 c = search rules
 
-sub-t11 : tie.Need-overflow-sub-t11
+sub-t11 : tie.Need-overflow_sub-result-3
 sub-t11 c = let a = c.before.before.before.before.before.before in lifted-fits a.args.s.q a.args.s.line_q a.requires.q a.requires.line-q
 
-sub-t12 : tie.Need-overflow-sub-t12
+sub-t12 : tie.Need-overflow_sub-result-4
 sub-t12 c =
     let a = c.before.before.before.before.before.before in
     let s = a.args.s in
@@ -110,8 +110,8 @@ returns c =
     let q = all s.q s.line_q a.requires.q a.requires.line-q s.coefficients a.requires.coefficients in
     λ t. record { i = i t; q = q t }
 
-pub unraised-spec : {M : Type 1} → statement M
-unraised-spec =
+pub unraised_spec : {M : Type 1} → statement M
+unraised_spec =
     tie.close
     (tie.spec
     cast-raised

@@ -32,19 +32,19 @@ module _ (c x : ℤ) (h : nat_abs c ≤ 131071) (k : nat_abs x ≤ 2147483648) w
     all : in64 (in64 s +ℤ in64 (in64 (to_z w32 (of_z w32 c)) *ℤ in64 x)) ≡ s +ℤ c *ℤ x
     all = rw sum_is (back w64 (s +ℤ c *ℤ x) (omega (arith, abs-add s (c *ℤ x), product_small c x h k)))
 
-cast-k : tie.Need-overflow-cast-k
+cast-k : tie.Need-overflow_cast-k
 cast-k c = rw (back w32 c.args.c (omega (arith, c.requires.1.0))) (sfit {z = c.args.c} (omega (arith, c.requires.1.0)))
 
-mul-t6 : tie.Need-overflow-mul-t6
+mul-t6 : tie.Need-overflow_mul-result
 mul-t6 c = product-fits c.args.c c.args.x c.requires.1.0 c.requires.1.1.0
 
-add-t7 : tie.Need-overflow-add-t7
+add-t7 : tie.Need-overflow_add-result
 add-t7 c = let a = c.before.before in sum_fits a.args.c a.args.x a.requires.1.0 a.requires.1.1.0 a.args.s.i a.requires.0.i
 
-mul-t8 : tie.Need-overflow-mul-t8
+mul-t8 : tie.Need-overflow_mul-result-2
 mul-t8 c = let a = c.before.before in product-fits a.args.c a.args.y a.requires.1.0 a.requires.1.1.1
 
-add-t9 : tie.Need-overflow-add-t9
+add-t9 : tie.Need-overflow_add-result-2
 add-t9 c =
     let a = c.before.before.before.before in
     sum_fits a.args.c a.args.y a.requires.1.0 a.requires.1.1.1 a.args.s.q a.requires.0.q
@@ -56,5 +56,5 @@ returns c =
     let q = all a.args.c a.args.y a.requires.1.0 a.requires.1.1.1 a.args.s.q a.requires.0.q in
     λ t. record { i = i t; q = q t }
 
-pub with-products-spec : {M : Type 1} → statement M
-with-products-spec = tie.close (tie.spec cast-k mul-t6 add-t7 mul-t8 add-t9 returns)
+pub with_products_spec : {M : Type 1} → statement M
+with_products_spec = tie.close (tie.spec cast-k mul-t6 add-t7 mul-t8 add-t9 returns)

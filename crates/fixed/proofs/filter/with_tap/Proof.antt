@@ -45,37 +45,37 @@ module _ (s c : ℤ) (b : nat_abs s ≤ 128 * 2 ^ 17) (h : nat_abs c ≤ 131071)
   coefficients-is : to_z w32 (of_z w32 s) +ℤ to_z w32 (of_z w32 c) ≡ s +ℤ c
   coefficients-is = rw (back w32 s (omega arith), back w32 c (omega arith))
 
-add-k : tie.Need-overflow-add-k
+add-k : tie.Need-overflow_add-k
 add-k c = rw (sum_is c.args.c c.requires.1.0) (sfit {z = c.args.c +ℤ pos 131072} (omega (arith, raised-small c.args.c c.requires.1.0)))
 
-cast-k : tie.Need-overflow-cast-k
+cast-k : tie.Need-overflow_cast-k
 cast-k c = rw (raised_is c.args.c c.requires.1.0) (raised-whole c.args.c c.requires.1.0)
 
-cast-k-2 : tie.Need-overflow-cast-k-2
+cast-k-2 : tie.Need-overflow_cast-k-2
 cast-k-2 c = rw (raised-abs c.args.c c.requires.1.0) (Fits-widen {w = w32} tt (raised-whole c.args.c c.requires.1.0).1)
 
-mul-t9 : tie.Need-overflow-mul-t9
+mul-t9 : tie.Need-overflow_mul-result
 mul-t9 c = product-fits c.args.c c.requires.1.0 c.args.x
 
-add-t10 : tie.Need-overflow-add-t10
+add-t10 : tie.Need-overflow_add-result
 add-t10 c = let a = c.before in sum_fits a.args.c a.requires.1.0 a.args.s.i a.args.x a.requires.0.i
 
-mul-t12 : tie.Need-overflow-mul-t12
+mul-t12 : tie.Need-overflow_mul-result-2
 mul-t12 c = let a = c.before in product-fits a.args.c a.requires.1.0 a.args.y
 
-add-t13 : tie.Need-overflow-add-t13
+add-t13 : tie.Need-overflow_add-result-2
 add-t13 c = let a = c.before.before in sum_fits a.args.c a.requires.1.0 a.args.s.q a.args.y a.requires.0.q
 
-add-t6 : tie.Need-overflow-add-t6
+add-t6 : tie.Need-overflow_add-result-3
 add-t6 c =
     let a = c.before.before.before.before in
     rw (coefficients-is a.args.s.coefficients a.args.c a.requires.0.coefficients a.requires.1.0)
     (coefficients-fit a.args.s.coefficients a.args.c a.requires.0.coefficients a.requires.1.0)
 
-add-t14 : tie.Need-overflow-add-t14
+add-t14 : tie.Need-overflow_add-result-4
 add-t14 c = search rules
 
-add-t15 : tie.Need-overflow-add-t15
+add-t15 : tie.Need-overflow_add-result-5
 add-t15 c = search rules
 
 returns : tie.Need-returns
@@ -89,7 +89,7 @@ returns c =
     (to_z-of_z (coefficients-fit s.coefficients a.args.c a.requires.0.coefficients a.requires.1.0)) in
     λ t. record { i = s.i + x t; q = s.q + y t; coefficients = w t; line_i = s.line_i + a.args.x; line_q = s.line_q + a.args.y }
 
-pub with-tap-spec : {M : Type 1} → statement M
-with-tap-spec =
+pub with_tap_spec : {M : Type 1} → statement M
+with_tap_spec =
     tie.close
     (tie.spec add-k cast-k cast-k-2 mul-t9 add-t10 mul-t12 add-t13 add-t6 add-t14 add-t15 returns)

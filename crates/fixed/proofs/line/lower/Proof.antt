@@ -11,10 +11,10 @@ use Rattle.fixed.proofs.line.lower.Tie as tie
 fits : (c : tie.Start) → SFits w64 (lowered c.args.u)
 fits c = sfits_widen {w = w32} tt (lowered-fits c.args.u c.requires)
 
-cast-result : tie.Need-overflow-cast-result
+cast-result : tie.Need-overflow_cast-result
 cast-result c = search rules
 
-sub-result : tie.Need-overflow-sub-result
+sub-result : tie.Need-overflow_sub-result
 sub-result c = rw (whole c.args.u (record { fits = c.requires })) (fits c)
 
 returns : tie.Need-returns

@@ -5,19 +5,19 @@ use Rattle.fixed.specs.Line.{next_head}
 use Rattle.fixed.proofs.line.next_head.Statement.{statement}
 use Rattle.fixed.proofs.line.next_head.Tie as tie
 
-sub-result : tie.Need-overflow-sub-result
+sub-result : tie.Need-overflow_sub-result
 sub-result c = search rules
 
-returns : tie.Need-returns
+returns : tie.Need-returns-then-head-eq0
 unfolding next_head
-returns c = simp (eq-eqb _ _ c.if1.true)
+returns c = simp (eq-eqb _ _ c.if-head-eq0.true)
 
-sub-result-2 : tie.Need-overflow-sub-result-2
+sub-result-2 : tie.Need-overflow_sub-result-2
 sub-result-2 c = search rules
 
-returns-2 : tie.Need-returns-2
+returns-2 : tie.Need-returns
 unfolding next_head
-returns-2 c = simp (ne_eqb _ _ c.if1.false)
+returns-2 c = simp (ne_eqb _ _ c.if-head-eq0.false)
 
-pub next-head-spec : {M : Type 1} → statement M
-next-head-spec = tie.close (tie.spec sub-result returns sub-result-2 returns-2)
+pub next_head_spec : {M : Type 1} → statement M
+next_head_spec = tie.close (tie.spec sub-result returns sub-result-2 returns-2)

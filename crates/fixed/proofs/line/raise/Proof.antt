@@ -18,13 +18,13 @@ range c = omega (arith, add-pn c.args.x (pos 2147483648), fit-pn c.ranges.x)
 fits : (c : tie.Start) → SFits w64 (sum c)
 fits c = let r = range c in pn-fit {z = sum c} (omega arith) (omega arith)
 
-cast-result : tie.Need-overflow-cast-result
+cast-result : tie.Need-overflow_cast-result
 cast-result c = widens w64 tt c.ranges.x
 
-add-result : tie.Need-overflow-add-result
+add-result : tie.Need-overflow_add-result
 add-result c = simp (widened w64 tt c.ranges.x) (fits c)
 
-cast-result-2 : tie.Need-overflow-cast-result-2
+cast-result-2 : tie.Need-overflow_cast-result-2
 cast-result-2 c = let r = range c in simp (widened w64 tt c.ranges.x, to_z-of_z (fits c)) (unsign w64 (sum c) r.0 (omega (arith, r.1)))
 
 -- lowered, it is the number again
@@ -40,5 +40,5 @@ small c = let r = range c in omega (arith, nat-pn (sum c) r.0)
 returns : tie.Need-returns
 returns c = simp (widened w64 tt c.ranges.x, to_z-of_z (fits c)) (back-down c, small c)
 
-pub raise-spec : {M : Type 1} → statement M
-raise-spec = tie.close (tie.spec cast-result add-result cast-result-2 returns)
+pub raise_spec : {M : Type 1} → statement M
+raise_spec = tie.close (tie.spec cast-result add-result cast-result-2 returns)

@@ -38,74 +38,74 @@ module _ {a b c d : ℤ} (f : SFits w16 a) (g : SFits w16 b) (h : SFits w16 c) (
 
 -- ---- the four numbers
 
-cos-fits : (c : tie.After-c) → SFits w16 (get_or c.before.args.cos.now (c.before.args.nco / 2 ^ 22) (pos 0))
-cos-fits c = record { sfits = c.c.given }
+cos-fits : (c : tie.After-c-1) → SFits w16 (get_or c.before.args.cos.now (c.before.args.nco / 2 ^ 22) (pos 0))
+cos-fits c = record { sfits = c.c-1.given }
 
-sin-fits : (c : tie.After-s) → SFits w16 (get_or c.before.before.args.cos.now ((c.before.before.args.nco / 2 ^ 22 + 768) % 1024) (pos 0))
-sin-fits c = record { sfits = c.s.given }
+sin-fits : (c : tie.After-s-1) → SFits w16 (get_or c.before.before.args.cos.now ((c.before.before.args.nco / 2 ^ 22 + 768) % 1024) (pos 0))
+sin-fits c = record { sfits = c.s-1.given }
 
-cast-at : tie.Need-overflow-cast-at
+cast-at : tie.Need-overflow_cast-at
 cast-at c = search rules
 
-mul-c : tie.Need-overflow-mul-c
+mul-c : tie.Need-offset_bounds-cos-at
 mul-c c = search rules
 
-element-copy-out-c : tie.Need-element-copy-out-c
+element-copy-out-c : tie.Need-bounds-cos-at
 element-copy-out-c c = search rules
 
-cast-c : tie.Need-overflow-cast-c
+cast-c : tie.Need-overflow_cast-c
 cast-c c = widens w64 tt (cos-fits c)
 
-add-s : tie.Need-overflow-add-s
+add-s : tie.Need-overflow_add-s
 add-s c = search rules
 
-mul-s : tie.Need-overflow-mul-s
+mul-s : tie.Need-offset_bounds-cos-at-2
 mul-s c = search rules
 
-element-copy-out-s : tie.Need-element-copy-out-s
+element-copy-out-s : tie.Need-bounds-cos-at-2
 element-copy-out-s c = search rules
 
-cast-s : tie.Need-overflow-cast-s
+cast-s : tie.Need-overflow_cast-s
 cast-s c = widens w64 tt (sin-fits c)
 
-cast-x : tie.Need-overflow-cast-x
+cast-x : tie.Need-overflow_cast-x
 cast-x c = widens w64 tt c.before.before.ranges.i
 
-cast-y : tie.Need-overflow-cast-y
+cast-y : tie.Need-overflow_cast-y
 cast-y c = widens w64 tt c.before.before.ranges.q
 
 -- ---- in phase
 
-mul-without-scale : tie.Need-overflow-mul-without-scale
+mul-without-scale : tie.Need-overflow_mul-x
 mul-without-scale c = product-fits c.before.before.ranges.i (cos-fits c.before)
 
-mul-without-scale-2 : tie.Need-overflow-mul-without-scale-2
+mul-without-scale-2 : tie.Need-overflow_mul-y
 mul-without-scale-2 c = product-fits c.before.before.ranges.q (sin-fits c)
 
-sub-without-scale : tie.Need-overflow-sub-without-scale
+sub-without-scale : tie.Need-overflow_sub-x
 sub-without-scale c =
     let f = c.before.before.ranges in
     difference-fits f.i (cos-fits c.before) f.q (sin-fits c)
 
-without-scale-requires : tie.Need-without-scale-requires
+without-scale-requires : tie.Need-without_scale-requires
 without-scale-requires c κs =
     let f = c.before.before.ranges in
     rw (difference-is f.i (cos-fits c.before) f.q (sin-fits c)) (omega (arith, difference-abs f.i (cos-fits c.before) f.q (sin-fits c)))
 
 -- ---- in quadrature
 
-mul-without-scale-3 : tie.Need-overflow-mul-without-scale-3
+mul-without-scale-3 : tie.Need-overflow_mul-x-2
 mul-without-scale-3 c = product-fits c.before.before.before.ranges.i (sin-fits c.before)
 
-mul-without-scale-4 : tie.Need-overflow-mul-without-scale-4
+mul-without-scale-4 : tie.Need-overflow_mul-y-2
 mul-without-scale-4 c = product-fits c.before.before.before.ranges.q (cos-fits c.before.before)
 
-add-without-scale : tie.Need-overflow-add-without-scale
+add-without-scale : tie.Need-overflow_add-x
 add-without-scale c =
     let f = c.before.before.before.ranges in
     sum_fits f.i (sin-fits c.before) f.q (cos-fits c.before.before)
 
-without-scale-requires-2 : tie.Need-without-scale-requires-2
+without-scale-requires-2 : tie.Need-without_scale-requires-2
 without-scale-requires-2 c κs =
     let f = c.before.before.before.ranges in
     rw (sum_is f.i (sin-fits c.before) f.q (cos-fits c.before.before))
@@ -125,8 +125,8 @@ returns c =
     let at : ℕ = s.args.nco / 2 ^ 22 in
     simp (i, q, step s.requires at (omega arith), step s.requires ((at + 768) % 1024) (omega arith) ∙ wheel-mod (at + 768))
 
-pub mix-spec : {M : Type 1} → statement M
-mix-spec =
+pub mix_spec : {M : Type 1} → statement M
+mix_spec =
     tie.close
     (tie.spec
     cast-at

@@ -20,14 +20,14 @@ sum-abs c = omega (arith, c.requires, abs-add c.args.v (pos 16384))
 fits : (c : tie.Start) → SFits w32 (unscaled c.args.v)
 fits c = sfit {z = unscaled c.args.v} (omega (arith, sum-abs c, abs-shr-pow (sum c) 15))
 
-add-result : tie.Need-overflow-add-result
+add-result : tie.Need-overflow_add-result
 add-result c = simp (to_z-of_z c.ranges.v) (sfit {z = sum c} (omega (arith, sum-abs c)))
 
-cast-result : tie.Need-overflow-cast-result
+cast-result : tie.Need-overflow_cast-result
 cast-result c = simp (to_z-of_z c.ranges.v, back w64 (sum c) (omega (arith, sum-abs c))) (narrows tt (fits c))
 
 returns : tie.Need-returns
 returns c = simp (to_z-of_z c.ranges.v, back w64 (sum c) (omega (arith, sum-abs c))) (narrowed tt (fits c))
 
-pub without-scale-spec : {M : Type 1} → statement M
-without-scale-spec = tie.close (tie.spec add-result cast-result returns)
+pub without_scale_spec : {M : Type 1} → statement M
+without_scale_spec = tie.close (tie.spec add-result cast-result returns)

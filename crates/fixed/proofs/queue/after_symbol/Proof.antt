@@ -4,32 +4,32 @@ use Rattle.std.proofs.Common.{sym, refl, ◌∙◌, rules}
 use Rattle.fixed.proofs.queue.after_symbol.Statement.{statement}
 use Rattle.fixed.proofs.queue.after_symbol.Tie as tie
 
-is-due-requires : tie.Need-is-due-requires
+is-due-requires : tie.Need-is_due-requires
 is-due-requires c κs = search rules
 
-add-in-ring : tie.Need-overflow-add-in-ring
+add-in-ring : tie.Need-overflow_add-w
 add-in-ring c = search rules
 
-in-ring-requires : tie.Need-in-ring-requires
+in-ring-requires : tie.Need-in_ring-requires
 in-ring-requires c κs = search rules
 
-add-t6 : tie.Need-overflow-add-t6
+add-t6 : tie.Need-overflow_add-result
 add-t6 c = search rules
 
-returns : tie.Need-returns
+returns : tie.Need-returns-then-is_due
 returns c =
     let t = c.before.before.before in
-    rw (sym t.before.is-due.ensures ∙ t.if1.true, c.before.in-ring.ensures) refl
+    rw (sym t.before.is_due.ensures ∙ t.if-is_due.true, c.before.in_ring.ensures) refl
 
-add-t7 : tie.Need-overflow-add-t7
+add-t7 : tie.Need-overflow_add-result-2
 add-t7 c = search rules
 
-add-t8 : tie.Need-overflow-add-t8
+add-t8 : tie.Need-overflow_add-result-3
 add-t8 c = search rules
 
-returns-2 : tie.Need-returns-2
-returns-2 c = let t = c.before.before in rw (sym t.before.is-due.ensures ∙ t.if1.false) refl
+returns-2 : tie.Need-returns
+returns-2 c = let t = c.before.before in rw (sym t.before.is_due.ensures ∙ t.if-is_due.false) refl
 
-pub after-symbol-spec : {M : Type 1} → statement M
-after-symbol-spec =
+pub after_symbol_spec : {M : Type 1} → statement M
+after_symbol_spec =
     tie.close (tie.spec is-due-requires add-in-ring in-ring-requires add-t6 returns add-t7 add-t8 returns-2)

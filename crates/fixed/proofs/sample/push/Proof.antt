@@ -34,92 +34,92 @@ module _ (b : tie.Start) where
   pair = record { i = b.args.x; q = b.args.y }
 
   going-at : Going b.args.p (outline b.args.r b.args.w)
-  going-at = ready-going b.pre.1
+  going-at = ready-going b.requires.1
 
   -- time and integrator, read back
   time-is : in64 b.args.r.t_acc ≡ b.args.r.t_acc
   time-is = back w64 b.args.r.t_acc (omega (arith, going-at.soon))
 
   v-is : in64 b.args.r.v ≡ b.args.r.v
-  v-is = back w64 b.args.r.v (omega (arith, v-small b.args.p (loop_of b.args.r) (accepted b.pre.1).fields going-at.loop))
+  v-is = back w64 b.args.r.v (omega (arith, v-small b.args.p (loop_of b.args.r) (accepted b.requires.1).fields going-at.loop))
 
 -- ---- the sample joins
 
-cast-taps : tie.Need-overflow-cast-taps
+cast-taps : tie.Need-overflow_cast-taps
 cast-taps c = search rules
 
-mix-requires : tie.Need-mix-requires
+mix-requires : tie.Need-mix-m-requires
 mix-requires c κs = search rules
 
-next-head-requires : tie.Need-next-head-requires
+next-head-requires : tie.Need-next_head-head-requires
 next-head-requires c κs = (going-at c.before.before.before.before).head
 
 raise-requires : tie.Need-raise-requires
 raise-requires c κs = search rules
 
 -- the sample's place lies within the line, and the line within its arrays
-inside : (c : tie.After-next-head) → c.next-head.result < 64
+inside : (c : tie.After-next_head-head) → c.next_head-head.result < 64
 inside c =
     let fits = head-fits c.before.before.before.before.before.requires.1 in
-    subst (λ (n : ℕ). n < 64) (sym c.next-head.ensures) (omega (arith, fits.0, fits.1))
+    subst (λ (n : ℕ). n < 64) (sym c.next_head-head.ensures) (omega (arith, fits.0, fits.1))
 
-mul-i : tie.Need-overflow-mul-i
+mul-i : tie.Need-offset_bounds-i-head
 mul-i c = record { fits = omega (arith, inside c.before.before) }
 
-slice-write-i : tie.Need-slice-write-i
+slice-write-i : tie.Need-bounds-i-head
 slice-write-i c = let h = c.before.before in omega (arith, inside h, h.before.before.before.before.before.requires.1.begun.line.long-i)
 
 raise-requires-2 : tie.Need-raise-requires-2
 raise-requires-2 c κs = search rules
 
-mul-q : tie.Need-overflow-mul-q
+mul-q : tie.Need-offset_bounds-q-head
 mul-q c = record { fits = omega (arith, inside c.before.before.before.before) }
 
-slice-write-q : tie.Need-slice-write-q
+slice-write-q : tie.Need-bounds-q-head
 slice-write-q c = let h = c.before.before.before.before in omega (arith, inside h, h.before.before.before.before.before.requires.1.begun.line.long-q)
 
-next-nco-requires : tie.Need-next-nco-requires
+next-nco-requires : tie.Need-next_nco-requires
 next-nco-requires c κs = search rules
 
-module _ (c : tie.After-struct-told5) where
-  abbrev nco-at : tie.After-next-nco
+module _ (c : tie.After-struct_told-5-1) where
+  abbrev nco-at : tie.After-next_nco
   nco-at = c.before.before.before
 
-  abbrev second : tie.After-raise2
+  abbrev second : tie.After-raise-2
   second = nco-at.before.before
 
   abbrev first : tie.After-raise
   first = second.before.before
 
-  abbrev head_at : tie.After-next-head
+  abbrev head_at : tie.After-next_head-head
   head_at = first.before.before
 
   abbrev b : tie.Start
   b = head_at.before.before.before.before.before
 
-  mix-is : head_at.before.mix.result ≡ mixed b.args.r.nco (pair b)
-  mix-is = simp (to_z-of_z b.fits.x, to_z-of_z b.fits.y) at head_at.before.mix.ensures
+  mix-is : head_at.before.mix-m.result ≡ mixed b.args.r.nco (pair b)
+  mix-is = simp (to_z-of_z b.ranges.x, to_z-of_z b.ranges.y) at head_at.before.mix-m.ensures
 
   raised-i : lowered first.raise.result ≡ (mixed b.args.r.nco (pair b)).i
   raised-i =
-      first.raise.ensures.0 ∙ held w32 head_at.before.mix.result.i first.before.struct_told.given.0.1
+      first.raise.ensures.0 ∙ held w32 head_at.before.mix-m.result.i first.before.struct_told-1.given.0.1
       ∙ ap (λ (m : Pair). m.i) mix-is
 
-  raised-q : lowered second.raise2.result ≡ (mixed b.args.r.nco (pair b)).q
+  raised-q : lowered second.raise-2.result ≡ (mixed b.args.r.nco (pair b)).q
   raised-q =
-      second.raise2.ensures.0 ∙ held w32 head_at.before.mix.result.q second.before.struct-told2.given.1.0.1
+      second.raise-2.ensures.0 ∙ held w32 head_at.before.mix-m.result.q second.before.struct_told-2-1.given.1.0.1
       ∙ ap (λ (m : Pair). m.q) mix-is
 
-  nco-is : nco-at.next-nco.result ≡ next_nco b.args.p b.args.r.nco
+  nco-is : nco-at.next_nco.result ≡ next_nco b.args.p b.args.r.nco
   unfolding next_nco
-  nco-is = simp (held w32 b.args.p.nco_step nco-at.before.struct-told3.given.1.0.1) at nco-at.next-nco.ensures
+  nco-is = simp (held w32 b.args.p.nco_step nco-at.before.struct_told-3-1.given.1.0.1) at nco-at.next_nco.ensures
 
   -- What is kept now.
   abbrev turned : Registers
   turned =
       let r = b.args.r in
       record {
-        nco = nco-at.next-nco.result;
+        nco = nco-at.next_nco.result;
         t_acc = in64 r.t_acc;
         v = in64 r.v;
         period = r.period;
@@ -128,33 +128,33 @@ module _ (c : tie.After-struct-told5) where
       }
 
   abbrev joined_at : Position
-  joined_at = let w = b.args.w in record { head = head_at.next-head.result; oldest = w.oldest; waiting = w.waiting; samples = w.samples }
+  joined_at = let w = b.args.w in record { head = head_at.next_head-head.result; oldest = w.oldest; waiting = w.waiting; samples = w.samples }
 
   abbrev y : Kept
   y =
-      let head = head_at.next-head.result in
-      kept (set b.args.i.now head first.raise.result) (set b.args.q.now head second.raise2.result) b.args.e.now b.args.err.now
+      let head = head_at.next_head-head.result in
+      kept (set b.args.i.now head first.raise.result) (set b.args.q.now head second.raise-2.result) b.args.e.now b.args.err.now
       turned joined_at
 
-  kept-is : kept_joined b.pre.1 first.raise.result second.raise2.result ≡ y
+  kept-is : kept_joined b.requires.1 first.raise.result second.raise-2.result ≡ y
   kept-is =
       let a = b.args in
       let r = b.args.r in
       let w = b.args.w in
-      let head = sym head_at.next-head.ensures in
-      λ t. kept (set a.i.now (head t) first.raise.result) (set a.q.now (head t) second.raise2.result) a.e.now a.err.now
+      let head = sym head_at.next_head-head.ensures in
+      λ t. kept (set a.i.now (head t) first.raise.result) (set a.q.now (head t) second.raise-2.result) a.e-1.now a.err-1.now
       (record { nco = sym nco-is t; t_acc = sym (time-is b) t; v = sym (v-is b) t; period = r.period; gain_acc = r.gain_acc; symbols = r.symbols })
       (record { head = head t; oldest = w.oldest; waiting = w.waiting; samples = w.samples })
 
   ready-now : Ready (sheet b) y
   ready-now =
       subst (Ready (sheet b)) kept-is
-      (ready-joined b.pre.1 first.raise.result second.raise2.result first.raise.ensures.1 second.raise2.ensures.1)
+      (ready-joined b.requires.1 first.raise.result second.raise-2.result first.raise.ensures.1 second.raise-2.ensures.1)
 
   stands-now : (f : Frontend) → Stands b.args.p.taps (x b) f → Stands b.args.p.taps y (joined (sheet b) f (pair b))
   stands-now f stands =
       subst (λ (z : Kept). Stands b.args.p.taps z (joined (sheet b) f (pair b))) kept-is
-      (stands-joined b.pre.1 f stands (pair b) first.raise.result second.raise2.result raised-i raised-q)
+      (stands-joined b.requires.1 f stands (pair b) first.raise.result second.raise-2.result raised-i raised-q)
 
   -- the test on the time is the state's
   falls-is : (f : Frontend) (t : Bool) → Stands b.args.p.taps (x b) f → lt_z (in64 b.args.r.t_acc) one ≡ t → falls f ≡ t
@@ -162,39 +162,39 @@ module _ (c : tie.After-struct-told5) where
 
 -- ---- with a symbol
 
-with-symbol-requires : tie.Need-with-symbol-requires
+with-symbol-requires : tie.Need-with_symbol-requires
 with-symbol-requires c κs =
     let d = c.before.before.before.before.before in
-    (ready-now d, c.before.before.before.before.if1.true)
+    (ready-now d, c.before.before.before.before.if-r-lt16777216.true)
 
-same_length : tie.Need-same-length
+same_length : tie.Need-shape_of-i-then-r-lt16777216
 same_length c = search rules
 
-same-length-2 : tie.Need-same-length-2
+same-length-2 : tie.Need-shape_of-q-then-r-lt16777216
 same-length-2 c = search rules
 
-same-length-3 : tie.Need-same-length-3
+same-length-3 : tie.Need-shape_of-e-then-r-lt16777216
 same-length-3 c = search rules
 
-same-length-4 : tie.Need-same-length-4
+same-length-4 : tie.Need-shape_of-err-then-r-lt16777216
 same-length-4 c = search rules
 
-returns : tie.Need-returns
+returns : tie.Need-returns-then-r-lt16777216
 returns c =
     let w = c.before.before in
     let d = w.before.before.before.before.before.before in
-    let test = w.before.before.before.before.before.if1.true in
-    let made = w.with-symbol.ensures.0 in
-    let makes = w.with-symbol.ensures.1 in
+    let test = w.before.before.before.before.before.if-r-lt16777216.true in
+    let made = w.with_symbol.ensures.0 in
+    let makes = w.with_symbol.ensures.1 in
     let z : Kept =
-    kept (y d).i (y d).q w.with-symbol.new.1.1.1.1.1.1.0 w.with-symbol.new.1.1.1.1.1.1.1.0 w.with-symbol.result.registers
-    w.with-symbol.result.position in
+    kept (y d).i (y d).q w.with_symbol.new.1.1.1.1.1.1.0 w.with_symbol.new.1.1.1.1.1.1.1.0 w.with_symbol.result.registers
+    w.with_symbol.result.position in
     record {
       on = record { good = makes.on.good; samples = makes.on.samples; line = makes.on.line };
       sample = λ m. makes.sample;
       few-clips = λ m. makes.few-clips;
       makes = λ f stands.
-          made-with (sheet (b d)) f (pair (b d)) w.with-symbol.result.made w.with-symbol.result.symbol (falls-is d f true stands test) made
+          made-with (sheet (b d)) f (pair (b d)) w.with_symbol.result.made w.with_symbol.result.symbol (falls-is d f true stands test) made
           (makes.is (joined (sheet (b d)) f (pair (b d))) (stands-now d f stands));
       state = λ f stands.
           subst (Stands (b d).args.p.taps z) (next-with (sheet (b d)) f (pair (b d)) (falls-is d f true stands test))
@@ -203,23 +203,23 @@ returns c =
 
 -- ---- without one
 
-without-symbol-requires : tie.Need-without-symbol-requires
+without-symbol-requires : tie.Need-without_symbol-requires
 without-symbol-requires c κs =
     let b = b c.before in
-    (rw (time-is b) (omega (arith, (going-at b).soon)), b.pre.1.room)
+    (rw (time-is b) (omega (arith, (going-at b).soon)), b.requires.1.room)
 
-same-length-5 : tie.Need-same-length-5
+same-length-5 : tie.Need-shape_of-i
 same-length-5 c = search rules
 
-same-length-6 : tie.Need-same-length-6
+same-length-6 : tie.Need-shape_of-q
 same-length-6 c = search rules
 
-returns-2 : tie.Need-returns-2
+returns-2 : tie.Need-returns
 returns-2 c =
     let d = c.before.before in
-    let test = c.before.if1.false in
-    let out = c.without-symbol.result in
-    let e = c.without-symbol.ensures in
+    let test = c.before.if-r-lt16777216.false in
+    let out = c.without_symbol.result in
+    let e = c.without_symbol.ensures in
     let z : Kept = kept (y d).i (y d).q (y d).e (y d).err out.registers out.position in
     let kept-so : kept_without (y d) ≡ z = λ t. kept (y d).i (y d).q (y d).e (y d).err (sym e.0 t) (sym e.1.0 t) in
     let on = subst (GoesOn (sheet (b d)) (y d)) kept-so (without-symbol-on (ready-now d) test) in

@@ -32,21 +32,21 @@ module _ (s : tie.Start) where
   k = s.args.k.now
 
   accepted : Accepted (sheet_of s.args.p h g k)
-  accepted = no-faults _ (judged-none _ s.pre.0.accepted)
+  accepted = no-faults _ (judged-none _ s.requires.0.accepted)
 
   short : taps ≤ 64
   short = accepted.lengths.good.most
 
   -- the phase's row lies within its bank
   inside : phase * taps + taps ≤ 64 * taps
-  inside = row_inside taps h phase s.pre.1
+  inside = row_inside taps h phase s.requires.1
 
   -- The row of a bank that goes to the filter, as long as the line.
   abbrev row : List ℤ → List ℤ
   row cs = part taps phase cs
 
   row-long : (cs : List ℤ) → length cs ≡ 64 * taps → length (row cs) ≡ taps
-  row-long cs long = part-long taps phase s.pre.1 cs long
+  row-long cs long = part-long taps phase s.requires.1 cs long
 
   k-long : length (row k) ≡ taps
   k-long = row-long k accepted.lengths.long-k
@@ -56,14 +56,14 @@ module _ (s : tie.Start) where
       let l = accepted.lengths in
       let b = accepted.banks in
       record {
-        row-h = part-row taps phase s.pre.1 h l.long-h 0 short b.rows-h;
-        row-g = part-row taps phase s.pre.1 g l.long-g 1 short b.rows_g;
-        row-k = part-row taps phase s.pre.1 k l.long-k 2 short b.rows-k;
+        row-h = part-row taps phase s.requires.1 h l.long-h 0 short b.rows-h;
+        row-g = part-row taps phase s.requires.1 g l.long-g 1 short b.rows_g;
+        row-k = part-row taps phase s.requires.1 k l.long-k 2 short b.rows-k;
         long-h = row-long h l.long-h ∙ sym k-long;
         long-g = row-long g l.long-g ∙ sym k-long;
-        centred-h = part-centred taps phase s.pre.1 h l.long-h b.outside-h;
-        centred-g = part-centred taps phase s.pre.1 g l.long-g b.outside-g;
-        line = rw k-long s.pre.0.line;
+        centred-h = part-centred taps phase s.requires.1 h l.long-h b.outside-h;
+        centred-g = part-centred taps phase s.requires.1 g l.long-g b.outside-g;
+        line = rw k-long s.requires.0.line;
       }
 
   -- a row's sums are those of the definition's row
@@ -76,49 +76,49 @@ module _ (s : tie.Start) where
   unfolding filtered
   sums-are l = λ t. row-sums h l t ∷ row-sums g l t ∷ row-sums k l t ∷ []
 
-cast-taps : tie.Need-overflow-cast-taps
+cast-taps : tie.Need-overflow_cast-taps
 cast-taps c = search rules
 
-mul-a : tie.Need-overflow-mul-a
+mul-a : tie.Need-overflow_mul-a
 mul-a c = let s = c.before.before.before in record { fits = omega (arith, inside s, short s) }
 
-add-b : tie.Need-overflow-add-b
+add-b : tie.Need-overflow_add-b
 add-b c = let s = c.before.before.before in record { fits = omega (arith, inside s, short s) }
 
-mul-filter : tie.Need-overflow-mul-filter
+mul-filter : tie.Need-offset_bounds-h-a
 mul-filter c = let s = c.before.before.before in record { fits = omega (arith, inside s, short s) }
 
-sub-filter : tie.Need-overflow-sub-filter
+sub-filter : tie.Need-slice_bounds-filter-count
 sub-filter c = search rules
 
-part-filter-start : tie.Need-slice-bounds-filter-start
+part-filter-start : tie.Need-slice_bounds-filter-start
 part-filter-start c = search rules
 
-part-filter-end : tie.Need-slice-bounds-filter-end
+part-filter-end : tie.Need-slice_bounds-filter-end
 part-filter-end c = let s = c.before.before.before in omega (arith, inside s, (accepted s).lengths.long-h)
 
-mul-filter-2 : tie.Need-overflow-mul-filter-2
+mul-filter-2 : tie.Need-offset_bounds-g-a
 mul-filter-2 c = let s = c.before.before.before.before in record { fits = omega (arith, inside s, short s) }
 
-sub-filter-2 : tie.Need-overflow-sub-filter-2
+sub-filter-2 : tie.Need-slice_bounds-filter-count-2
 sub-filter-2 c = search rules
 
-part-filter-start-2 : tie.Need-slice-bounds-filter-start-2
+part-filter-start-2 : tie.Need-slice_bounds-filter-start-2
 part-filter-start-2 c = search rules
 
-part-filter-end-2 : tie.Need-slice-bounds-filter-end-2
+part-filter-end-2 : tie.Need-slice_bounds-filter-end-2
 part-filter-end-2 c = let s = c.before.before.before.before in omega (arith, inside s, (accepted s).lengths.long-g)
 
-mul-filter-3 : tie.Need-overflow-mul-filter-3
+mul-filter-3 : tie.Need-offset_bounds-k-a
 mul-filter-3 c = let s = c.before.before.before.before.before in record { fits = omega (arith, inside s, short s) }
 
-sub-filter-3 : tie.Need-overflow-sub-filter-3
+sub-filter-3 : tie.Need-slice_bounds-filter-count-3
 sub-filter-3 c = search rules
 
-part-filter-start-3 : tie.Need-slice-bounds-filter-start-3
+part-filter-start-3 : tie.Need-slice_bounds-filter-start-3
 part-filter-start-3 c = search rules
 
-part-filter-end-3 : tie.Need-slice-bounds-filter-end-3
+part-filter-end-3 : tie.Need-slice_bounds-filter-end-3
 part-filter-end-3 c = let s = c.before.before.before.before.before in omega (arith, inside s, (accepted s).lengths.long-k)
 
 filter-requires : tie.Need-filter-requires
@@ -129,8 +129,8 @@ returns c =
     let s = c.before.before.before.before.before.before.before in
     λ l laid. c.filter.ensures l (rw (k-long s) laid) ∙ sums-are s l
 
-pub sums-at-spec : {M : Type 1} → statement M
-sums-at-spec =
+pub sums_at_spec : {M : Type 1} → statement M
+sums_at_spec =
     tie.close
     (tie.spec
     cast-taps

@@ -43,10 +43,10 @@ module _ (b : tie.Start) where
   x = kept b.args.i.now b.args.q.now b.args.e.now b.args.err.now b.args.r b.args.w
 
   going-at : Going b.args.p (outline b.args.r b.args.w)
-  going-at = ready-going b.pre.0
+  going-at = ready-going b.requires.0
 
   soon : nat_abs b.args.r.t_acc < 16777216
-  soon = ltb-true (nat_abs b.args.r.t_acc) 16777216 (sym (ap (λ (z : ℤ). lt_z z one) going-at.whole) ∙ b.pre.1)
+  soon = ltb-true (nat_abs b.args.r.t_acc) 16777216 (sym (ap (λ (z : ℤ). lt_z z one) going-at.whole) ∙ b.requires.1)
 
   abbrev phase : ℕ
   phase = nat_abs (in64 (shr_z (in64 b.args.r.t_acc) 262144))
@@ -54,46 +54,46 @@ module _ (b : tie.Start) where
   phase-at : phase ≡ nat_abs b.args.r.t_acc / 262144
   phase-at = ap nat_abs (phase-is b.args.r.t_acc _ going-at.whole soon)
 
-cast-phase : tie.Need-overflow-cast-phase
+cast-phase : tie.Need-overflow_cast-phase
 cast-phase c =
     let b = c.before.before.before.before in
     subst (λ (z : ℤ). T (non_neg z) × Fits w64 (nat_abs z)) (sym (phase-is b.args.r.t_acc _ (going-at b).whole (soon b)))
     (tt, record { fits = omega (arith, soon b) })
 
-oldest-requires : tie.Need-oldest-requires
+oldest-requires : tie.Need-oldest-oldest-requires
 oldest-requires c κs =
     let b = c.before.before.before.before.before.before in
     ((b.requires.0.begun.long-e, b.requires.0.begun.long-err), omega (arith, (going-at b).oldest))
 
-is-due-requires : tie.Need-is-due-requires
+is-due-requires : tie.Need-is_due-requires
 is-due-requires c κs = search rules
 
-after-symbol-requires : tie.Need-after-symbol-requires
+after-symbol-requires : tie.Need-after_symbol-stepped-requires
 after-symbol-requires c κs = search rules
 
 -- ---- the step on the registers
 
-module _ (c : tie.After-after-symbol) where
+module _ (c : tie.After-after_symbol-stepped) where
   abbrev at : tie.Start
   at = c.before.before.before.before.before.before.before.before.before
 
-  stepped : c.after-symbol.result ≡ record { registers = left (due_in at.args.p (x at)); made = true }
+  stepped : c.after_symbol-stepped.result ≡ record { registers = left (due_in at.args.p (x at)); made = true }
   stepped =
       let a = at.args in
       let due = c.before in
-      c.after-symbol.ensures ∙ ap (λ (b : Bool). after_symbol a.p a.r b due.before.oldest.result) due.is-due.ensures
-      ∙ ap (after_symbol a.p a.r (is_due a.p.delay a.w.waiting)) due.before.oldest.ensures ∙ step_is at.pre.0 at.pre.1
+      c.after_symbol-stepped.ensures ∙ ap (λ (b : Bool). after_symbol a.p a.r b due.before.oldest-oldest.result) due.is_due.ensures
+      ∙ ap (after_symbol a.p a.r (is_due a.p.delay a.w.waiting)) due.before.oldest-oldest.ensures ∙ step_is at.requires.0 at.requires.1
 
-  registers-are : c.after-symbol.result.registers ≡ left (due_in at.args.p (x at))
+  registers-are : c.after_symbol-stepped.result.registers ≡ left (due_in at.args.p (x at))
   registers-are = ap (λ (z : AfterSymbol). z.registers) stepped
 
-sums-at-requires : tie.Need-sums-at-requires
+sums-at-requires : tie.Need-sums_at-sums-requires
 sums-at-requires c κs =
     let b = at c.before in (
       record {
-        accepted = b.pre.0.begun.accepted;
+        accepted = b.requires.0.begun.accepted;
         head = (going-at b).head;
-        line = b.pre.0.begun.line;
+        line = b.requires.0.begun.line;
       },
       subst (λ (n : ℕ). n < 64) (sym (phase-at b)) (omega (arith, soon b)),
     )
@@ -101,103 +101,103 @@ sums-at-requires c κs =
 gain-requires : tie.Need-gain-requires
 gain-requires c κs = search rules
 
-cast-make : tie.Need-overflow-cast-make
+cast-make : tie.Need-overflow_cast-phase-2
 cast-make c = let b = at c.before.before.before in record { fits = subst (λ (n : ℕ). n < 256) (sym (phase-at b)) (omega (arith, soon b)) }
 
-make-requires : tie.Need-make-requires
+make-requires : tie.Need-make-symbol-requires
 make-requires c κs = search rules
 
 join-requires : tie.Need-join-requires
 join-requires c κs =
     let b = at c.before.before.before.before.before.before.before.before in
-    ((b.pre.0.begun.long-e, b.pre.0.begun.long-err), ((going-at b).oldest, ring-holds b.pre.0))
+    ((b.requires.0.begun.long-e, b.requires.0.begun.long-err), ((going-at b).oldest, ring-holds b.requires.0))
 
-after-symbol-requires-2 : tie.Need-after-symbol-requires-2
+after-symbol-requires-2 : tie.Need-after_symbol-position-requires
 after-symbol-requires-2 c κs =
     let b = at c.before.before.before.before.before.before.before.before.before.before.before in
-    ((going-at b).oldest, (ring-holds b.pre.0, b.pre.0.room))
+    ((going-at b).oldest, (ring-holds b.requires.0, b.requires.0.room))
 
-same_length : tie.Need-same-length
+same_length : tie.Need-shape_of-e
 same_length c = search rules
 
-same-length-2 : tie.Need-same-length-2
+same-length-2 : tie.Need-shape_of-err
 same-length-2 c = search rules
 
 -- ---- what is left
 
-module _ (c : tie.After-after-symbol2) where
+module _ (c : tie.After-after_symbol-position) where
   abbrev joined : tie.After-join
   joined = c.before.before.before
 
-  abbrev made : tie.After-make
+  abbrev made : tie.After-make-symbol
   made = joined.before.before.before.before.before
 
-  abbrev moved : tie.After-after-symbol
+  abbrev moved : tie.After-after_symbol-stepped
   moved = made.before.before.before.before
 
   abbrev b : tie.Start
   b = at moved
 
   abbrev y : Kept
-  y = kept b.args.i.now b.args.q.now joined.join.last.0 joined.join.last.1.0 moved.after-symbol.result.registers
-      c.after-symbol2.result
+  y = kept b.args.i.now b.args.q.now joined.join.last.0 joined.join.last.1.0 moved.after_symbol-stepped.result.registers
+      c.after_symbol-position.result
 
   -- the queue with the symbol's errors
-  timing-queued : joined.join.last.0 ≡ set b.args.e.now ((b.args.w.oldest + b.args.w.waiting) % ring_places) made.make.result.e
+  timing-queued : joined.join.last.0 ≡ set b.args.e.now ((b.args.w.oldest + b.args.w.waiting) % ring_places) made.make-symbol.result.e
   timing-queued =
       joined.join.ensures.0
-      ∙ ap (set b.args.e.now _) (held w32 made.make.result.e joined.before.before.struct-told2.given.1.1.1.1.1.1.1.1.1.1.1.0.1)
+      ∙ ap (set b.args.e.now _) (held w32 made.make-symbol.result.e joined.before.before.struct_told-2-1.given.1.1.1.1.1.1.1.1.1.1.1.0.1)
 
-  gain-queued : joined.join.last.1.0 ≡ set b.args.err.now ((b.args.w.oldest + b.args.w.waiting) % ring_places) made.make.result.err
+  gain-queued : joined.join.last.1.0 ≡ set b.args.err.now ((b.args.w.oldest + b.args.w.waiting) % ring_places) made.make-symbol.result.err
   gain-queued =
       joined.join.ensures.1
-      ∙ ap (set b.args.err.now _) (held w32 made.make.result.err joined.before.struct-told3.given.1.1.1.1.1.1.1.1.1.1.1.1.0.1)
+      ∙ ap (set b.args.err.now _) (held w32 made.make-symbol.result.err joined.before.struct_told-3-1.given.1.1.1.1.1.1.1.1.1.1.1.1.0.1)
 
-  kept-is : kept_with b.args.p (x b) made.make.result.e made.make.result.err ≡ y
+  kept-is : kept_with b.args.p (x b) made.make-symbol.result.e made.make-symbol.result.err ≡ y
   kept-is =
       let a = b.args in
-      λ t. kept a.i.now a.q.now (sym timing-queued t) (sym gain-queued t) (sym (registers-are moved) t) (sym c.after-symbol2.ensures t)
+      λ t. kept a.i.now a.q.now (sym timing-queued t) (sym gain-queued t) (sym (registers-are moved) t) (sym c.after_symbol-position.ensures t)
 
   -- the symbol is made of the gain and the period that the registers then have
-  made-is : made.make.result
+  made-is : made.make-symbol.result
       ≡ (let d : Registers = left (due_in b.args.p (x b)) in
-      symbol_from b.args.p (d.gain_acc / 256) d.period b.args.w.samples (phase b) made.before.before.sums_at.result)
+      symbol_from b.args.p (d.gain_acc / 256) d.period b.args.w.samples (phase b) made.before.before.sums_at-sums.result)
   made-is =
       let a = b.args in
-      let sums = made.before.before.sums_at.result in
+      let sums = made.before.before.sums_at-sums.result in
       let d : Registers = left (due_in a.p (x b)) in
-      let small : d.gain_acc / 256 % 65536 ≡ d.gain_acc / 256 = omega (arith, step-gain b.pre.0) in
+      let small : d.gain_acc / 256 % 65536 ≡ d.gain_acc / 256 = omega (arith, step-gain b.requires.0) in
       let gain : made.before.gain.result ≡ d.gain_acc / 256 =
       made.before.gain.ensures ∙ ap (λ (r : Registers). r.gain_acc / 256 % 65536) (registers-are moved) ∙ small in
-      made.make.ensures
+      made.make-symbol.ensures
       ∙ (λ t. symbol_from a.p (gain t) (registers-are moved t).period a.w.samples (phase b) sums)
 
   -- it is that of any state that the arrays stand for
-  symbol-is : (f : Frontend) → Stands b.args.p.taps (x b) f → made.make.result ≡ symbol_of (sheet b) f
+  symbol-is : (f : Frontend) → Stands b.args.p.taps (x b) f → made.make-symbol.result ≡ symbol_of (sheet b) f
   symbol-is f stands =
       let a = b.args in
       let d : Registers = left (due_in a.p (x b)) in
       made-is
       ∙ ap (symbol_from a.p (d.gain_acc / 256) d.period a.w.samples (phase b))
-      (made.before.before.sums_at.ensures f.line stands.line)
-      ∙ stands-symbol b.pre.0 f stands (phase b) (phase-at b)
+      (made.before.before.sums_at-sums.ensures f.line stands.line)
+      ∙ stands-symbol b.requires.0 f stands (phase b) (phase-at b)
 
-  makes : MakesSymbol (sheet b) (x b) y made.make.result
+  makes : MakesSymbol (sheet b) (x b) y made.make-symbol.result
   makes = record {
-    on = subst (GoesOn (sheet b) (x b)) kept-is (with-symbol-on b.pre.0 _ _ b.pre.1);
+    on = subst (GoesOn (sheet b) (x b)) kept-is (with-symbol-on b.requires.0 _ _ b.requires.1);
     sample = ap (λ (z : Symbol). z.sample) made-is ∙ sample-is b.args.p _ _ b.args.w.samples (phase b) _;
     few-clips = subst (λ (z : Symbol). z.clips ≤ 12) (sym made-is) (symbol-twelve b.args.p _ _ b.args.w.samples (phase b) _);
     is = symbol-is;
     state = λ f stands.
         subst (λ (z : Kept). Stands b.args.p.taps z (with_symbol (sheet b) f)) kept-is
-        (stands-with b.pre.0 f stands made.make.result (symbol-is f stands));
+        (stands-with b.requires.0 f stands made.make-symbol.result (symbol-is f stands));
   }
 
 returns : tie.Need-returns
 returns c = (refl, makes c)
 
-pub with-symbol-spec : {M : Type 1} → statement M
-with-symbol-spec =
+pub with_symbol_spec : {M : Type 1} → statement M
+with_symbol_spec =
     tie.close
     (tie.spec
     cast-phase

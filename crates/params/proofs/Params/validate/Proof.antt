@@ -33,54 +33,54 @@ fields-answer s l b e = rw l (rw b e)
 passes : (rs : List Refusal) → Numbered rs → {v : Verdict} → verdict_refusal v ≡ first_of rs → v ≡ Accepted → rs ≡ []
 passes rs n told is = first-none rs n (ap (λ (r : Refusal). r.number) (sym told ∙ ap verdict_refusal is))
 
-check-lengths-requires : tie.Need-check-lengths-requires
+check-lengths-requires : tie.Need-check_lengths-lengths-requires
 check-lengths-requires c κs = search rules
 
-enum-known-lengths : tie.Need-enum-known-lengths
+enum-known-lengths : tie.Need-enum_known-lengths
 enum-known-lengths c = search rules
 
-returns : tie.Need-returns
+returns : tie.Need-returns-in-Refused
 returns c =
-    let e = c.before.lengths.given in
-    lengths-answer _ (error-numbered e.0.0) (refused c.before.before.before.check-lengths.ensures e.1)
+    let e = c.before.lengths-1.given in
+    lengths-answer _ (error-numbered e.0.0) (refused c.before.before.before.check_lengths-lengths.ensures e.1)
 
-enum_told : tie.Need-enum-told
+enum_told : tie.Need-enum_told-1
 enum_told c = search rules
 
-cast-check-banks : tie.Need-overflow-cast-check-banks
+cast-check-banks : tie.Need-overflow_cast-self
 cast-check-banks c = search rules
 
-in-lengths : (c : tie.After-enum-told)
+in-lengths : (c : tie.In_default)
     → let a = c.before.before.before.args in length_faults a.self.taps a.h.now a.g.now a.k.now ≡ []
-in-lengths c = passes _ (lengths-numbered _ _ _ _) c.before.before.check-lengths.ensures c.enum_told.given.1
+in-lengths c = passes _ (lengths-numbered _ _ _ _) c.before.before.check_lengths-lengths.ensures c.enum_told-1.given.1
 
-check-banks-requires : tie.Need-check-banks-requires
+check-banks-requires : tie.Need-check_banks-in_banks-requires
 check-banks-requires c κs = let g = good-lengths _ _ _ _ (in-lengths c.before) in (g.good.most, (g.long-h, (g.long-g, g.long-k)))
 
-enum-known-in-banks : tie.Need-enum-known-in-banks
+enum-known-in-banks : tie.Need-enum_known-in_banks
 enum-known-in-banks c = search rules
 
-returns-2 : tie.Need-returns-2
+returns-2 : tie.Need-returns-in-Refused-in_banks
 returns-2 c =
-    let e = c.before.in-banks.given in
+    let e = c.before.in_banks-1.given in
     banks-answer _ (in-lengths c.before.before.before.before.before) (error-numbered e.0.0)
-    (refused c.before.before.before.check-banks.ensures e.1)
+    (refused c.before.before.before.check_banks-in_banks.ensures e.1)
 
-enum-told-2 : tie.Need-enum-told-2
+enum-told-2 : tie.Need-enum_told-in_default-in_banks
 enum-told-2 c = search rules
 
-check-fields-requires : tie.Need-check-fields-requires
+check-fields-requires : tie.Need-check_fields-requires
 check-fields-requires c κs = search rules
 
-in-banks : (c : tie.After-enum-told2)
+in-banks : (c : tie.In_default-in_banks)
     → let a = c.before.before.before.before.before.before.before.args in bank_faults a.self.taps a.h.now a.g.now a.k.now ≡ []
-in-banks c = passes _ (banks-numbered _ _ _ _) c.before.before.check-banks.ensures c.enum-told2.given.1
+in-banks c = passes _ (banks-numbered _ _ _ _) c.before.before.check_banks-in_banks.ensures c.enum_told-in_default-in_banks-1.given.1
 
-returns-3 : tie.Need-returns-3
-returns-3 c = fields-answer _ (in-lengths c.before.before.before.before.before) (in-banks c.before) c.check-fields.ensures
+returns-3 : tie.Need-returns
+returns-3 c = fields-answer _ (in-lengths c.before.before.before.before.before) (in-banks c.before) c.check_fields.ensures
 
-pub validate-spec : {M : Type 1} → statement M
-validate-spec =
+pub validate_spec : {M : Type 1} → statement M
+validate_spec =
     tie.close
     (tie.spec
     check-lengths-requires

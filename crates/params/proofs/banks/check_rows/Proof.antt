@@ -9,39 +9,39 @@ use Rattle.params.proofs.RowsOf.{row_inside, row-long, row-part, row_next, rows-
 use Rattle.params.proofs.banks.check_rows.Statement.{statement}
 use Rattle.params.proofs.banks.check_rows.Tie as tie
 
-abbrev invariant-loop : tie.invariant-loop
+abbrev invariant-loop : tie.invariant-loop-phase
 invariant-loop bank cs taps of-detector centred₀ phase₀ at₀ centred phase at =
     (phase ≤ 64) × (at ≡ phase * taps) × (rows_faults taps bank cs 0 phase ≡ []) × (of-detector ≡ true → centred ≡ rows_outside taps cs 0 phase)
 
-abbrev decreases-loop : tie.decreases-loop
+abbrev decreases-loop : tie.decreases-loop-phase
 decreases-loop bank cs taps of-detector centred₀ phase₀ at₀ centred phase at = 64 - phase
 
-loop-holds : tie.Need-loop-init invariant-loop decreases-loop
+loop-holds : tie.Need-loop-phase-init invariant-loop decreases-loop
 unfolding rows_faults rows_outside
 loop-holds c = (omega arith, omega arith, refl, λ t. refl)
 
 -- in a turn: the row lies within the bank
-module _ (c : tie.In-loop invariant-loop decreases-loop) where
-  inside : c.before.loop.at + c.before.before.args.taps ≤ 64 * c.before.before.args.taps
-  inside = rw c.before.loop.invariant.1 (row_inside c.before.before.args.taps c.before.before.args.cs.now c.before.loop.phase (omega arith))
+module _ (c : tie.In-loop-phase invariant-loop decreases-loop) where
+  inside : c.before.loop-phase.at + c.before.before.args.taps ≤ 64 * c.before.before.args.taps
+  inside = rw c.before.loop-phase.invariant.1 (row_inside c.before.before.args.taps c.before.before.args.cs.now c.before.loop-phase.phase (omega arith))
 
-add-end : tie.Need-overflow-add-end invariant-loop decreases-loop
+add-end : tie.Need-overflow_add-end invariant-loop decreases-loop
 add-end c = omega (arith, inside c)
 
-mul-row : tie.Need-overflow-mul-row invariant-loop decreases-loop
+mul-row : tie.Need-offset_bounds-cs-at invariant-loop decreases-loop
 mul-row c = omega (arith, inside c)
 
-sub_row : tie.Need-overflow-sub-row invariant-loop decreases-loop
+sub_row : tie.Need-slice_bounds-row-count invariant-loop decreases-loop
 sub_row c = search rules
 
-part-row-start : tie.Need-slice-bounds-row-start invariant-loop decreases-loop
+part-row-start : tie.Need-slice_bounds-row-start invariant-loop decreases-loop
 part-row-start c = search rules
 
-part-row-end : tie.Need-slice-bounds-row-end invariant-loop decreases-loop
+part-row-end : tie.Need-slice_bounds-row-end invariant-loop decreases-loop
 part-row-end c = omega (arith, inside c)
 
 -- the part is the row
-module _ (c : tie.After-row invariant-loop decreases-loop) where
+module _ (c : tie.After-row-1 invariant-loop decreases-loop) where
   taps : ℕ
   taps = c.before.before.before.args.taps
 
@@ -49,40 +49,40 @@ module _ (c : tie.After-row invariant-loop decreases-loop) where
   cs = c.before.before.before.args.cs.now
 
   phase : ℕ
-  phase = c.before.before.loop.phase
+  phase = c.before.before.loop-phase.phase
 
-  part : take (c.before.before.loop.at + taps - c.before.before.loop.at) (drop c.before.before.loop.at cs) ≡ row_of taps cs phase
+  part : take (c.before.before.loop-phase.at + taps - c.before.before.loop-phase.at) (drop c.before.before.loop-phase.at cs) ≡ row_of taps cs phase
   unfolding taps cs phase
-  part = row-part c.before.before.before.args.taps c.before.before.before.args.cs.now c.before.before.loop.at
-      c.before.before.loop.phase c.before.before.loop.invariant.1
+  part = row-part c.before.before.before.args.taps c.before.before.before.args.cs.now c.before.before.loop-phase.at
+      c.before.before.loop-phase.phase c.before.before.loop-phase.invariant.1
 
   long : length (row_of taps cs phase) ≡ taps
   unfolding taps cs phase
-  long = row-long c.before.before.before.args.taps c.before.before.before.args.cs.now c.before.before.loop.phase (omega arith)
+  long = row-long c.before.before.before.args.taps c.before.before.before.args.cs.now c.before.before.loop-phase.phase (omega arith)
       c.before.before.before.requires.1
 
-magnitude-sum-requires : tie.Need-magnitude-sum-requires invariant-loop decreases-loop
+magnitude-sum-requires : tie.Need-magnitude_sum-sum-requires invariant-loop decreases-loop
 unfolding taps cs phase
 magnitude-sum-requires c κs = rw (part c) (omega (arith, long c))
 
 -- ---- what the row sums to
 
-sum_is : (c : tie.After-magnitude-sum invariant-loop decreases-loop) → c.magnitude-sum.result ≡ magnitudes (row_of (taps c.before) (cs c.before) (phase c.before))
+sum_is : (c : tie.After-magnitude_sum-sum invariant-loop decreases-loop) → c.magnitude_sum-sum.result ≡ magnitudes (row_of (taps c.before) (cs c.before) (phase c.before))
 unfolding taps cs phase
-sum_is c = c.magnitude-sum.ensures ∙ ap magnitudes (part c.before)
+sum_is c = c.magnitude_sum-sum.ensures ∙ ap magnitudes (part c.before)
 
-row-error-requires : tie.Need-row-error-requires invariant-loop decreases-loop
+row-error-requires : tie.Need-row_error-requires invariant-loop decreases-loop
 unfolding taps cs phase
 row-error-requires c κs = rw (part c.before.before) (sum_is c.before, omega arith)
 
-returns : tie.Need-returns invariant-loop decreases-loop
+returns : tie.Need-returns-then-sum-gt131071 invariant-loop decreases-loop
 unfolding taps cs phase
 returns c =
     let r = c.before.before.before in
     let a = r.before.before.before.args in
     let l = r.before.before.loop in
-    let told = c.row-error.ensures ∙ ap (λ (row : List ℤ). first_of (row_faults a.bank l.phase row)) (part r) in
-    let some = error-numbered c.row-error.result in
+    let told = c.row_error.ensures ∙ ap (λ (row : List ℤ). first_of (row_faults a.bank l.phase row)) (part r) in
+    let some = error-numbered c.row_error.result in
     let first = rows-first a.taps a.cs.now a.bank l.phase (omega arith) l.invariant.2 (subst (λ (q : Refusal). 0 < q.number) told some) in
     (told ∙ sym first, λ t e. absurd (omega (arith, some, ap (λ (q : Refusal). q.number) e)))
 
@@ -90,17 +90,17 @@ returns c =
 same_row : {x y : Bool} {p row : List ℤ} {n : ℕ} → x ≡ y → p ≡ row → length row ≡ n → (x && zero_outside (length p) 0 p) ≡ (y && zero_outside n 0 row)
 same_row e f g = rw (e, f, g)
 
-stay-centred-requires : tie.Need-stay-centred-requires invariant-loop decreases-loop
+stay-centred-requires : tie.Need-stay_centred-centred-requires invariant-loop decreases-loop
 unfolding taps cs phase
 stay-centred-requires c κs = rw (part c.before.before) (omega (arith, long c.before.before), sum_is c.before)
 
-add-phase : tie.Need-overflow-add-phase invariant-loop decreases-loop
+add-phase : tie.Need-overflow_add-phase invariant-loop decreases-loop
 add-phase c = search rules
 
-loop-less : tie.Need-loop-smaller invariant-loop decreases-loop
+loop-less : tie.Need-loop-phase-smaller invariant-loop decreases-loop
 loop-less c = search rules
 
-loop-again : tie.Need-loop-preserved invariant-loop decreases-loop
+loop-again : tie.Need-loop-phase-preserved invariant-loop decreases-loop
 unfolding taps cs phase
 loop-again c =
     let m = c.before.before in
@@ -112,10 +112,10 @@ loop-again c =
       omega arith,
       row_next a.taps a.cs.now l.at l.phase l.invariant.1,
       rows-suc a.taps a.cs.now a.bank l.phase l.invariant.2 (light-row a.bank l.phase row light),
-      λ t. c.stay-centred.ensures t ∙ same_row (l.invariant.3 t) (part r) (long r) ∙ sym (outside-suc a.taps a.cs.now l.phase),
+      λ t. c.stay_centred-centred.ensures t ∙ same_row (l.invariant.3 t) (part r) (long r) ∙ sym (outside-suc a.taps a.cs.now l.phase),
     )
 
-returns-2 : tie.Need-returns-2 invariant-loop decreases-loop
+returns-2 : tie.Need-returns invariant-loop decreases-loop
 returns-2 c =
     let a = c.before.before.args in
     let l = c.before.loop in
@@ -124,8 +124,8 @@ returns-2 c =
       λ t q. l.invariant.3 t ∙ ap (rows_outside a.taps a.cs.now 0) e,
     )
 
-pub check-rows-spec : {M : Type 1} → statement M
-check-rows-spec =
+pub check_rows_spec : {M : Type 1} → statement M
+check_rows_spec =
     tie.close
     (tie.spec
     invariant-loop

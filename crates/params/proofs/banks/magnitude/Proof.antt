@@ -8,38 +8,38 @@ use Rattle.params.proofs.banks.magnitude.Tie as tie
 
 -- ---- below zero
 
-c-is : (c : tie.Then1) → c.before.args.c ≡ negsuc (mag c.before.args.c)
-c-is c = below-zero c.before.args.c (simp (to_z-of_z c.before.ranges.c) at c.if1.true)
+c-is : (c : tie.Then-c-lt0) → c.before.args.c ≡ negsuc (mag c.before.args.c)
+c-is c = below-zero c.before.args.c (simp (to_z-of_z c.before.ranges.c) at c.if-c-lt0.true)
 
-read : (c : tie.Then1) → to_z w32 (of_z w32 c.before.args.c) ≡ negsuc (mag c.before.args.c)
+read : (c : tie.Then-c-lt0) → to_z w32 (of_z w32 c.before.args.c) ≡ negsuc (mag c.before.args.c)
 read c = to_z-of_z c.before.ranges.c ∙ c-is c
 
-fits : (c : tie.Then1) → SFits w32 (pos (mag c.before.args.c))
+fits : (c : tie.Then-c-lt0) → SFits w32 (pos (mag c.before.args.c))
 fits c = sfits_of c.before.ranges.c.sfits
 
-sub-result : tie.Need-overflow-sub-result
+sub-result : tie.Need-overflow_sub-result
 sub-result c = simp (read c, flip_down) (fits c)
 
-cast-result : tie.Need-overflow-cast-result
+cast-result : tie.Need-overflow_cast-result
 cast-result c = simp (read c, flip_down, to_z-of_z (fits c)) (tt, record { fits = omega (arith, c.before.ranges.c.sfits) })
 
-add-result : tie.Need-overflow-add-result
+add-result : tie.Need-overflow_add-result
 add-result c = simp (read c, flip_down, to_z-of_z (fits c)) (record { fits = omega (arith, c.before.ranges.c.sfits) })
 
-returns : tie.Need-returns
+returns : tie.Need-returns-then-c-lt0
 returns c = simp (read c, flip_down, to_z-of_z (fits c)) (add-one _ ∙ sym (ap nat_abs (c-is c)))
 
 -- ---- not below zero
 
-d-is : (c : tie.Else1) → c.before.args.c ≡ pos (mag c.before.args.c)
-d-is c = not-below c.before.args.c (simp (to_z-of_z c.before.ranges.c) at c.if1.false)
+d-is : (c : tie.Else-c-lt0) → c.before.args.c ≡ pos (mag c.before.args.c)
+d-is c = not-below c.before.args.c (simp (to_z-of_z c.before.ranges.c) at c.if-c-lt0.false)
 
-cast-result-2 : tie.Need-overflow-cast-result-2
+cast-result-2 : tie.Need-overflow_cast-result-2
 cast-result-2 c = simp (to_z-of_z c.before.ranges.c ∙ d-is c) (tt, record { fits = omega (arith, c.before.ranges.c.sfits) })
 
-returns-2 : tie.Need-returns-2
+returns-2 : tie.Need-returns
 returns-2 c = simp (to_z-of_z c.before.ranges.c)
 
-pub magnitude-spec : {M : Type 1} → statement M
-magnitude-spec =
+pub magnitude_spec : {M : Type 1} → statement M
+magnitude_spec =
     tie.close (tie.spec sub-result cast-result add-result returns cast-result-2 returns-2)

@@ -12,32 +12,32 @@ record Summed (row : List ℤ) (i sum : ℕ) : Type 0 where
   is : sum ≡ magnitudes (take i row)
   small : sum ≤ i * 131071
 
-abbrev invariant-loop : tie.invariant-loop
+abbrev invariant-loop : tie.invariant-loop-i
 invariant-loop row s₀ i₀ s i = (i ≤ length row) × (s.small ≡ true → Summed row i s.sum)
 
-abbrev decreases-loop : tie.decreases-loop
+abbrev decreases-loop : tie.decreases-loop-i
 decreases-loop row s₀ i₀ s i = length row - i
 
-loop-holds : tie.Need-loop-init invariant-loop decreases-loop
+loop-holds : tie.Need-loop-i-init invariant-loop decreases-loop
 unfolding magnitudes
 loop-holds c = (omega arith, λ e. record { is = refl; small = omega arith })
 
-mul-magnitude : tie.Need-overflow-mul-magnitude invariant-loop decreases-loop
+mul-magnitude : tie.Need-offset_bounds-row-i invariant-loop decreases-loop
 mul-magnitude c = search rules
 
-shared-slice-copy-out-magnitude : tie.Need-shared-slice-copy-out-magnitude invariant-loop decreases-loop
+shared-slice-copy-out-magnitude : tie.Need-bounds-row-i invariant-loop decreases-loop
 shared-slice-copy-out-magnitude c = search rules
 
 magnitude-requires : tie.Need-magnitude-requires invariant-loop decreases-loop
 magnitude-requires c κs = search rules
 
-with-magnitude-requires : tie.Need-with-magnitude-requires invariant-loop decreases-loop
+with-magnitude-requires : tie.Need-with_magnitude-s-requires invariant-loop decreases-loop
 with-magnitude-requires c κs = search rules
 
-add-i : tie.Need-overflow-add-i invariant-loop decreases-loop
+add-i : tie.Need-overflow_add-i invariant-loop decreases-loop
 add-i c = search rules
 
-loop-less : tie.Need-loop-smaller invariant-loop decreases-loop
+loop-less : tie.Need-loop-i-smaller invariant-loop decreases-loop
 loop-less c = search rules
 
 -- one magnitude more that is small
@@ -49,14 +49,14 @@ more row i sum inside few m s =
     let whole : (sum + nat_abs (get_or row i (pos 0))) % 2 ^ 32 ≡ sum + nat_abs (get_or row i (pos 0)) = mod-eq_of_lt bound in
     rw whole (record { is = rw e (omega (arith, s.is, magnitudes-suc row i inside)); small = omega (arith, s.small) })
 
-loop-again : tie.Need-loop-preserved invariant-loop decreases-loop
+loop-again : tie.Need-loop-i-preserved invariant-loop decreases-loop
 loop-again c =
     let b = c.before.before.before.before in
     let row = b.before.args.row.now in
     let l = b.loop in
     let one : c.before.magnitude.result ≡ nat_abs (get_or row l.i (pos 0)) =
-    simp (held w32 (get_or row l.i (pos 0)) c.before.before.magnitude-arg.given) at c.before.magnitude.ensures in
-    rw (c.with-magnitude.ensures, one) (
+    simp (held w32 (get_or row l.i (pos 0)) c.before.before.magnitude-arg-1.given) at c.before.magnitude.ensures in
+    rw (c.with_magnitude-s.ensures, one) (
       omega arith,
       λ e. more row l.i l.s.sum (omega arith) b.before.requires
           (leb-true (nat_abs (get_or row l.i (pos 0))) 131071 (and_right l.s.small (leb (nat_abs (get_or row l.i (pos 0))) 131071) e))
@@ -67,10 +67,10 @@ returns : tie.Need-returns invariant-loop decreases-loop
 returns c =
     let b = c.before in
     let row = b.before.args.row.now in
-    λ e. (b.loop.invariant.1 e).is ∙ ap magnitudes (take_all b.loop.i row (omega arith))
+    λ e. (b.loop-i.invariant.1 e).is ∙ ap magnitudes (take_all b.loop-i.i row (omega arith))
 
-pub narrow-sum-spec : {M : Type 1} → statement M
-narrow-sum-spec =
+pub narrow_sum_spec : {M : Type 1} → statement M
+narrow_sum_spec =
     tie.close
     (tie.spec
     invariant-loop

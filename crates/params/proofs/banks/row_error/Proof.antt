@@ -10,72 +10,72 @@ use Rattle.params.proofs.Rows.{coefficients-suc, coefficient-first, sum_first}
 use Rattle.params.proofs.banks.row_error.Statement.{statement}
 use Rattle.params.proofs.banks.row_error.Tie as tie
 
-abbrev invariant-loop : tie.invariant-loop
+abbrev invariant-loop : tie.invariant-loop-i
 invariant-loop bank phase row sum i₀ i = (i ≤ length row) × (coefficient_faults bank phase (take i row) ≡ [])
 
-abbrev decreases-loop : tie.decreases-loop
+abbrev decreases-loop : tie.decreases-loop-i
 decreases-loop bank phase row sum i₀ i = length row - i
 
-loop-holds : tie.Need-loop-init invariant-loop decreases-loop
+loop-holds : tie.Need-loop-i-init invariant-loop decreases-loop
 unfolding coefficient_faults
 loop-holds c = (omega arith, refl)
 
-mul-value : tie.Need-overflow-mul-value invariant-loop decreases-loop
+mul-value : tie.Need-offset_bounds-row-i invariant-loop decreases-loop
 mul-value c = search rules
 
-shared-slice-copy-out-value : tie.Need-shared-slice-copy-out-value invariant-loop decreases-loop
+shared-slice-copy-out-value : tie.Need-bounds-row-i invariant-loop decreases-loop
 shared-slice-copy-out-value c = search rules
 
 -- the coefficient that a turn looks at, and its bits
-abbrev value : tie.After-value invariant-loop decreases-loop → ℤ
-value c = get_or c.before.before.before.args.row.now c.before.before.loop.i (pos 0)
+abbrev value : tie.After-value-1 invariant-loop decreases-loop → ℤ
+value c = get_or c.before.before.before.args.row.now c.before.before.loop-i.i (pos 0)
 
-read : (c : tie.After-value invariant-loop decreases-loop) → to_z w32 (of_z w32 (value c)) ≡ value c
-read c = held w32 (value c) c.value.given
+read : (c : tie.After-value-1 invariant-loop decreases-loop) → to_z w32 (of_z w32 (value c)) ≡ value c
+read c = held w32 (value c) c.value-1.given
 
 -- what its two tests say of it
-low : (c : tie.After-value invariant-loop decreases-loop) (t : Bool) → lt_z (to_z w32 (of_z w32 (value c))) (negsuc 131071) ≡ t
+low : (c : tie.After-value-1 invariant-loop decreases-loop) (t : Bool) → lt_z (to_z w32 (of_z w32 (value c))) (negsuc 131071) ≡ t
     → le_z (negsuc 131071) (value c) ≡ mathlib.Core.Bool.not t
 low c t e = not-less (value c) (negsuc 131071) t (simp (read c) at e)
 
-high : (c : tie.After-value invariant-loop decreases-loop) (t : Bool) → lt_z (pos 131071) (to_z w32 (of_z w32 (value c))) ≡ t
+high : (c : tie.After-value-1 invariant-loop decreases-loop) (t : Bool) → lt_z (pos 131071) (to_z w32 (of_z w32 (value c))) ≡ t
     → le_z (value c) (pos 131071) ≡ mathlib.Core.Bool.not t
 high c t e = not-less (pos 131071) (value c) t (simp (read c) at e)
 
-returns : tie.Need-returns invariant-loop decreases-loop
+returns : tie.Need-returns-then-value-ltminus131072 invariant-loop decreases-loop
 returns c =
     let a = c.before.before.before.before.args in
     let l = c.before.before.before.loop in
     let wide : within (negsuc 131071) (pos 131071) (value c.before) ≡ false =
-    ap (λ (b : Bool). b && le_z (value c.before) (pos 131071)) (low c.before true c.if1.true) in
+    ap (λ (b : Bool). b && le_z (value c.before) (pos 131071)) (low c.before true c.if-value-ltminus131072.true) in
     simp (read c.before) (sym (coefficient-first a.bank a.phase a.row.now l.i (omega arith) l.invariant.1 wide))
 
 -- a value that its first test let through
-passed : (b : Bool) (c : tie.Else1 invariant-loop decreases-loop) → le_z (value c.before) (pos 131071) ≡ b → within (negsuc 131071) (pos 131071) (value c.before) ≡ b
-passed b c e = ap (λ (x : Bool). x && le_z (value c.before) (pos 131071)) (low c.before false c.if1.false) ∙ e
+passed : (b : Bool) (c : tie.Else-value-ltminus131072 invariant-loop decreases-loop) → le_z (value c.before) (pos 131071) ≡ b → within (negsuc 131071) (pos 131071) (value c.before) ≡ b
+passed b c e = ap (λ (x : Bool). x && le_z (value c.before) (pos 131071)) (low c.before false c.if-value-ltminus131072.false) ∙ e
 
-returns-2 : tie.Need-returns-2 invariant-loop decreases-loop
+returns-2 : tie.Need-returns-then-value-gt131071 invariant-loop decreases-loop
 returns-2 c =
     let a = c.before.before.before.before.before.args in
     let l = c.before.before.before.before.loop in
-    let wide = passed false c.before (high c.before.before true c.if2.true) in
+    let wide = passed false c.before (high c.before.before true c.if-value-gt131071.true) in
     simp (read c.before.before) (sym (coefficient-first a.bank a.phase a.row.now l.i (omega arith) l.invariant.1 wide))
 
-add-i : tie.Need-overflow-add-i invariant-loop decreases-loop
+add-i : tie.Need-overflow_add-i invariant-loop decreases-loop
 add-i c = search rules
 
-loop-less : tie.Need-loop-smaller invariant-loop decreases-loop
+loop-less : tie.Need-loop-i-smaller invariant-loop decreases-loop
 loop-less c = search rules
 
-loop-again : tie.Need-loop-preserved invariant-loop decreases-loop
+loop-again : tie.Need-loop-i-preserved invariant-loop decreases-loop
 loop-again c =
     let a = c.before.before.before.before.before.args in
     let l = c.before.before.before.before.loop in
-    let fits = passed true c.before (high c.before.before false c.if2.false) in
+    let fits = passed true c.before (high c.before.before false c.if-value-gt131071.false) in
     let e : l.i + 1 ≡ suc l.i = omega arith in
     (omega arith, rw e (coefficients-suc a.bank a.phase a.row.now l.i (omega arith) l.invariant.1 fits))
 
-returns-3 : tie.Need-returns-3 invariant-loop decreases-loop
+returns-3 : tie.Need-returns invariant-loop decreases-loop
 returns-3 c =
     let a = c.before.before.args in
     let l = c.before.loop in
@@ -84,8 +84,8 @@ returns-3 c =
     ∙ l.invariant.1 in
     rw c.before.before.requires.0 (sym (sum_first a.bank a.phase row none (omega (arith, c.before.before.requires.0))))
 
-pub row-error-spec : {M : Type 1} → statement M
-row-error-spec =
+pub row_error_spec : {M : Type 1} → statement M
+row_error_spec =
     tie.close
     (tie.spec
     invariant-loop

@@ -4,17 +4,17 @@ use borrow.Author.Tests.{not-true, not-false}
 use Rattle.params.proofs.banks.stay_centred.Statement.{statement}
 use Rattle.params.proofs.banks.stay_centred.Tie as tie
 
-returns : tie.Need-returns
-returns c = λ t. absurd (true≢false (sym t ∙ not-true _ c.if1.true))
+returns : tie.Need-returns-then-not-of_detector
+returns c = λ t. absurd (true≢false (sym t ∙ not-true _ c.if-not-of_detector.true))
 
-returns-2 : tie.Need-returns-2
-returns-2 c = λ t. simp (not-true c.before.before.args.so_far c.if2.true)
+returns-2 : tie.Need-returns-then-not-so_far
+returns-2 c = λ t. simp (not-true c.before.before.args.so_far c.if-not-so_far.true)
 
-is-centred-requires : tie.Need-is-centred-requires
+is-centred-requires : tie.Need-is_centred-requires
 is-centred-requires c κs = search rules
 
-returns-3 : tie.Need-returns-3
-returns-3 c = λ t. simp (not-false c.before.before.before.args.so_far c.before.if2.false) c.is-centred.ensures
+returns-3 : tie.Need-returns
+returns-3 c = λ t. simp (not-false c.before.before.before.args.so_far c.before.if-not-so_far.false) c.is_centred.ensures
 
-pub stay-centred-spec : {M : Type 1} → statement M
-stay-centred-spec = tie.close (tie.spec returns returns-2 is-centred-requires returns-3)
+pub stay_centred_spec : {M : Type 1} → statement M
+stay_centred_spec = tie.close (tie.spec returns returns-2 is-centred-requires returns-3)

@@ -7,54 +7,54 @@ use Rattle.params.proofs.Rows.{magnitudes-suc}
 use Rattle.params.proofs.banks.wide_sum.Statement.{statement}
 use Rattle.params.proofs.banks.wide_sum.Tie as tie
 
-abbrev invariant-loop : tie.invariant-loop
+abbrev invariant-loop : tie.invariant-loop-i
 invariant-loop row sum₀ i₀ sum i = (i ≤ length row) × (sum ≡ magnitudes (take i row)) × (sum ≤ i * 2 ^ 32)
 
-abbrev decreases-loop : tie.decreases-loop
+abbrev decreases-loop : tie.decreases-loop-i
 decreases-loop row sum₀ i₀ sum i = length row - i
 
-loop-holds : tie.Need-loop-init invariant-loop decreases-loop
+loop-holds : tie.Need-loop-i-init invariant-loop decreases-loop
 unfolding magnitudes
 loop-holds c = (omega arith, refl, omega arith)
 
-mul-magnitude : tie.Need-overflow-mul-magnitude invariant-loop decreases-loop
+mul-magnitude : tie.Need-offset_bounds-row-i invariant-loop decreases-loop
 mul-magnitude c = search rules
 
-shared-slice-copy-out-magnitude : tie.Need-shared-slice-copy-out-magnitude invariant-loop decreases-loop
+shared-slice-copy-out-magnitude : tie.Need-bounds-row-i invariant-loop decreases-loop
 shared-slice-copy-out-magnitude c = search rules
 
 magnitude-requires : tie.Need-magnitude-requires invariant-loop decreases-loop
 magnitude-requires c κs = search rules
 
-cast-sum : tie.Need-overflow-cast-sum invariant-loop decreases-loop
+cast-sum : tie.Need-overflow_cast-sum invariant-loop decreases-loop
 cast-sum c = search rules
 
-add-sum : tie.Need-overflow-add-sum invariant-loop decreases-loop
+add-sum : tie.Need-overflow_add-sum invariant-loop decreases-loop
 add-sum c = search rules
 
-add-i : tie.Need-overflow-add-i invariant-loop decreases-loop
+add-i : tie.Need-overflow_add-i invariant-loop decreases-loop
 add-i c = search rules
 
-loop-less : tie.Need-loop-smaller invariant-loop decreases-loop
+loop-less : tie.Need-loop-i-smaller invariant-loop decreases-loop
 loop-less c = search rules
 
-loop-again : tie.Need-loop-preserved invariant-loop decreases-loop
+loop-again : tie.Need-loop-i-preserved invariant-loop decreases-loop
 loop-again c =
     let row = c.before.before.before.before.args.row.now in
-    let i = c.before.before.before.loop.i in
+    let i = c.before.before.before.loop-i.i in
     let one : c.magnitude.result ≡ nat_abs (get_or row i (pos 0)) =
-    simp (held w32 (get_or row i (pos 0)) c.before.magnitude-arg.given) at c.magnitude.ensures in
+    simp (held w32 (get_or row i (pos 0)) c.before.magnitude-arg-1.given) at c.magnitude.ensures in
     let e : i + 1 ≡ suc i = omega arith in
     (omega arith, rw e (omega (arith, magnitudes-suc row i (omega arith))), omega arith)
 
 returns : tie.Need-returns invariant-loop decreases-loop
 returns c =
     let row = c.before.before.args.row.now in
-    let i = c.before.loop.i in
-    c.before.loop.invariant.1 ∙ ap magnitudes (take_all i row (omega arith))
+    let i = c.before.loop-i.i in
+    c.before.loop-i.invariant.1 ∙ ap magnitudes (take_all i row (omega arith))
 
-pub wide-sum-spec : {M : Type 1} → statement M
-wide-sum-spec =
+pub wide_sum_spec : {M : Type 1} → statement M
+wide_sum_spec =
     tie.close
     (tie.spec
     invariant-loop

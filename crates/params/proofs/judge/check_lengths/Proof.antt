@@ -6,46 +6,46 @@ use Rattle.params.proofs.Faults.{First, none, keeps, breaks}
 use Rattle.params.proofs.judge.check_lengths.Statement.{statement}
 use Rattle.params.proofs.judge.check_lengths.Tie as tie
 
-is-good-taps-requires : tie.Need-is-good-taps-requires
+is-good-taps-requires : tie.Need-is_good_taps-requires
 is-good-taps-requires c κs = search rules
 
-returns : tie.Need-returns
+returns : tie.Need-returns-then-not-is_good_taps
 unfolding length_faults
-returns c = let f : First _ _ = breaks (lit< tt) (sym c.before.is-good-taps.ensures ∙ not-true _ c.if1.true) in f.is
+returns c = let f : First _ _ = breaks (lit< tt) (sym c.before.is_good_taps.ensures ∙ not-true _ c.if-not-is_good_taps.true) in f.is
 
-good : (c : tie.Else1) → good_taps c.before.before.args.taps ≡ true
-good c = sym c.before.is-good-taps.ensures ∙ not-false _ c.if1.false
+good : (c : tie.Else-not-is_good_taps) → good_taps c.before.before.args.taps ≡ true
+good c = sym c.before.is_good_taps.ensures ∙ not-false _ c.if-not-is_good_taps.false
 
-mul-long : tie.Need-overflow-mul-long
+mul-long : tie.Need-overflow_mul-long
 mul-long c = search rules
 
 -- ---- the lengths
 
-returns-2 : tie.Need-returns-2
+returns-2 : tie.Need-returns-then-h-long
 unfolding length_faults good_length
-returns-2 c = let f : First _ _ = keeps _ (good c.before) (breaks (lit< tt) (ne_eqb _ _ c.if2.true)) in f.is
+returns-2 c = let f : First _ _ = keeps _ (good c.before) (breaks (lit< tt) (ne_eqb _ _ c.if-h-long.true)) in f.is
 
-returns-3 : tie.Need-returns-3
+returns-3 : tie.Need-returns-then-g-long
 unfolding length_faults good_length
 returns-3 c =
-    let f : First _ _ = keeps _ (good c.before.before) (keeps _ (eq-eqb _ _ c.before.if2.false) (breaks (lit< tt) (ne_eqb _ _ c.if3.true))) in
+    let f : First _ _ = keeps _ (good c.before.before) (keeps _ (eq-eqb _ _ c.before.if-h-long.false) (breaks (lit< tt) (ne_eqb _ _ c.if-g-long.true))) in
     f.is
 
-returns-4 : tie.Need-returns-4
+returns-4 : tie.Need-returns-then-k-long
 unfolding length_faults good_length
 returns-4 c =
     let f : First _ _ =
     keeps _ (good c.before.before.before)
-    (keeps _ (eq-eqb _ _ c.before.before.if2.false) (keeps _ (eq-eqb _ _ c.before.if3.false) (breaks (lit< tt) (ne_eqb _ _ c.if4.true)))) in
+    (keeps _ (eq-eqb _ _ c.before.before.if-h-long.false) (keeps _ (eq-eqb _ _ c.before.if-g-long.false) (breaks (lit< tt) (ne_eqb _ _ c.if-k-long.true)))) in
     f.is
 
-returns-5 : tie.Need-returns-5
+returns-5 : tie.Need-returns
 unfolding length_faults good_length
 returns-5 c =
     let f : First _ _ =
     keeps _ (good c.before.before.before)
-    (keeps _ (eq-eqb _ _ c.before.before.if2.false) (keeps _ (eq-eqb _ _ c.before.if3.false) (keeps _ (eq-eqb _ _ c.if4.false) none))) in
+    (keeps _ (eq-eqb _ _ c.before.before.if-h-long.false) (keeps _ (eq-eqb _ _ c.before.if-g-long.false) (keeps _ (eq-eqb _ _ c.if-k-long.false) none))) in
     f.is
 
-pub check-lengths-spec : {M : Type 1} → statement M
-check-lengths-spec = tie.close (tie.spec is-good-taps-requires returns mul-long returns-2 returns-3 returns-4 returns-5)
+pub check_lengths_spec : {M : Type 1} → statement M
+check_lengths_spec = tie.close (tie.spec is-good-taps-requires returns mul-long returns-2 returns-3 returns-4 returns-5)

@@ -6,17 +6,17 @@ use Rattle.params.specs.Judge.{good_taps}
 use Rattle.params.proofs.judge.is_good_taps.Statement.{statement}
 use Rattle.params.proofs.judge.is_good_taps.Tie as tie
 
-returns : tie.Need-returns
+returns : tie.Need-returns-then-taps-lt4
 unfolding good_taps
-returns c = simp (lt-leb _ _ c.if1.true)
+returns c = simp (lt-leb _ _ c.if-taps-lt4.true)
 
-returns-2 : tie.Need-returns-2
+returns-2 : tie.Need-returns-then-taps-gt64
 unfolding good_taps
-returns-2 c = simp (le-leb _ _ c.before.if1.false, lt-leb _ _ c.if2.true)
+returns-2 c = simp (le-leb _ _ c.before.if-taps-lt4.false, lt-leb _ _ c.if-taps-gt64.true)
 
-returns-3 : tie.Need-returns-3
+returns-3 : tie.Need-returns
 unfolding good_taps
-returns-3 c = simp (le-leb _ _ c.before.if1.false, le-leb _ _ c.if2.false)
+returns-3 c = simp (le-leb _ _ c.before.if-taps-lt4.false, le-leb _ _ c.if-taps-gt64.false)
 
-pub is-good-taps-spec : {M : Type 1} → statement M
-is-good-taps-spec = tie.close (tie.spec returns returns-2 returns-3)
+pub is_good_taps_spec : {M : Type 1} → statement M
+is_good_taps_spec = tie.close (tie.spec returns returns-2 returns-3)

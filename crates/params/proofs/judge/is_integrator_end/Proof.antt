@@ -4,13 +4,13 @@ use Rattle.arith.proofs.Order.{not-less}
 use Rattle.params.proofs.judge.is_integrator_end.Statement.{statement}
 use Rattle.params.proofs.judge.is_integrator_end.Tie as tie
 
-returns : tie.Need-returns
-returns c = simp (not-less c.before.args.v (pos 0) true (simp (to_z-of_z c.before.ranges.v) at c.if1.true))
+returns : tie.Need-returns-then-v-lt0
+returns c = simp (not-less c.before.args.v (pos 0) true (simp (to_z-of_z c.before.ranges.v) at c.if-v-lt0.true))
 
-returns-2 : tie.Need-returns-2
+returns-2 : tie.Need-returns
 returns-2 c =
     let f = to_z-of_z c.before.ranges.v in
-    simp (f, not-less c.before.args.v (pos 0) false (simp f at c.if1.false))
+    simp (f, not-less c.before.args.v (pos 0) false (simp f at c.if-v-lt0.false))
 
-pub is-integrator-end-spec : {M : Type 1} → statement M
-is-integrator-end-spec = tie.close (tie.spec returns returns-2)
+pub is_integrator_end_spec : {M : Type 1} → statement M
+is_integrator_end_spec = tie.close (tie.spec returns returns-2)

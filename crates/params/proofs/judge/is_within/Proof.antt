@@ -4,11 +4,11 @@ use borrow.Author.Tests.{lt-leb}
 use Rattle.params.proofs.judge.is_within.Statement.{statement}
 use Rattle.params.proofs.judge.is_within.Tie as tie
 
-returns : tie.Need-returns
-returns c = simp (lt-leb _ _ c.if1.true)
+returns : tie.Need-returns-then-v-lo
+returns c = simp (lt-leb _ _ c.if-v-lo.true)
 
-returns-2 : tie.Need-returns-2
-returns-2 c = simp (le-leb _ _ c.if1.false)
+returns-2 : tie.Need-returns
+returns-2 c = simp (le-leb _ _ c.if-v-lo.false)
 
-pub is-within-spec : {M : Type 1} → statement M
-is-within-spec = tie.close (tie.spec returns returns-2)
+pub is_within_spec : {M : Type 1} → statement M
+is_within_spec = tie.close (tie.spec returns returns-2)

@@ -9,20 +9,20 @@ use Rattle.kinds.proofs.OfKind.{is-i32}
 use Rattle.places.proofs.numbers.i32_at.Statement.{statement}
 use Rattle.places.proofs.numbers.i32_at.Tie as tie
 
-abbrev place : tie.After-result → ℤ
+abbrev place : tie.After-result-1 → ℤ
 place c = at c.before.args.places.now c.before.args.n
 
-mul-result : tie.Need-overflow-mul-result
+mul-result : tie.Need-offset_bounds-places-n
 mul-result c = search rules
 
-shared-slice-copy-out-result : tie.Need-shared-slice-copy-out-result
+shared-slice-copy-out-result : tie.Need-bounds-places-n
 shared-slice-copy-out-result c = search rules
 
-cast-result : tie.Need-overflow-cast-result
-cast-result c = simp (held w64 (place c) c.result.given) (is-i32 (place c) c.before.requires.is)
+cast-result : tie.Need-overflow_cast-result
+cast-result c = simp (held w64 (place c) c.result-1.given) (is-i32 (place c) c.before.requires.is)
 
 returns : tie.Need-returns
-returns c = simp (held w64 (place c) c.result.given) (simp (to_z-of_z (is-i32 (place c) c.before.requires.is)))
+returns c = simp (held w64 (place c) c.result-1.given) (simp (to_z-of_z (is-i32 (place c) c.before.requires.is)))
 
-pub i32-at-spec : {M : Type 1} → statement M
-i32-at-spec = tie.close (tie.spec mul-result shared-slice-copy-out-result cast-result returns)
+pub i32_at_spec : {M : Type 1} → statement M
+i32_at_spec = tie.close (tie.spec mul-result shared-slice-copy-out-result cast-result returns)

@@ -8,20 +8,20 @@ use Rattle.kinds.proofs.OfKind.{is-u8}
 use Rattle.places.proofs.numbers.u8_at.Statement.{statement}
 use Rattle.places.proofs.numbers.u8_at.Tie as tie
 
-abbrev place : tie.After-result → ℤ
+abbrev place : tie.After-result-1 → ℤ
 place c = at c.before.args.places.now c.before.args.n
 
-mul-result : tie.Need-overflow-mul-result
+mul-result : tie.Need-offset_bounds-places-n
 mul-result c = search rules
 
-shared-slice-copy-out-result : tie.Need-shared-slice-copy-out-result
+shared-slice-copy-out-result : tie.Need-bounds-places-n
 shared-slice-copy-out-result c = search rules
 
-cast-result : tie.Need-overflow-cast-result
-cast-result c = simp (held w64 (place c) c.result.given) (is-u8 (place c) c.before.requires.is)
+cast-result : tie.Need-overflow_cast-result
+cast-result c = simp (held w64 (place c) c.result-1.given) (is-u8 (place c) c.before.requires.is)
 
 returns : tie.Need-returns
-returns c = simp (held w64 (place c) c.result.given)
+returns c = simp (held w64 (place c) c.result-1.given)
 
-pub u8-at-spec : {M : Type 1} → statement M
-u8-at-spec = tie.close (tie.spec mul-result shared-slice-copy-out-result cast-result returns)
+pub u8_at_spec : {M : Type 1} → statement M
+u8_at_spec = tie.close (tie.spec mul-result shared-slice-copy-out-result cast-result returns)

@@ -17,28 +17,28 @@ can-be-read s = readable-design s.args.rates.now s.args.fields.now s.requires
 looked : (s : tie.Start) (n : ℕ) → n < 8 → KindAt (get_or design_kinds n 0) s.args.fields.now n
 looked s n h = readable-at design_kinds s.args.fields.now (can-be-read s).kinds n h
 
-shared-slice-read-t4 : tie.Need-shared-slice-read-t4
+shared-slice-read-t4 : tie.Need-bounds-rates-0
 shared-slice-read-t4 c = omega (arith, (can-be-read c.before.before).long)
 
-shared-slice-read-t6 : tie.Need-shared-slice-read-t6
+shared-slice-read-t6 : tie.Need-bounds-rates-1
 shared-slice-read-t6 c = omega (arith, (can-be-read c.before.before.before).long)
 
-shared-slice-read-t8 : tie.Need-shared-slice-read-t8
+shared-slice-read-t8 : tie.Need-bounds-rates-2
 shared-slice-read-t8 c = omega (arith, (can-be-read c.before.before.before.before).long)
 
-shared-slice-read-t10 : tie.Need-shared-slice-read-t10
+shared-slice-read-t10 : tie.Need-bounds-rates-3
 shared-slice-read-t10 c = omega (arith, (can-be-read c.before.before.before.before.before).long)
 
-shared-slice-read-t12 : tie.Need-shared-slice-read-t12
+shared-slice-read-t12 : tie.Need-bounds-rates-4
 shared-slice-read-t12 c = omega (arith, (can-be-read c.before.before.before.before.before.before).long)
 
-u32-at-requires : tie.Need-u32-at-requires
+u32-at-requires : tie.Need-u32_at-requires
 u32-at-requires c κs = looked c.before.before.before.before.before.before 0 (lit< tt)
 
-u8-at-requires : tie.Need-u8-at-requires
+u8-at-requires : tie.Need-u8_at-requires
 u8-at-requires c κs = looked c.before.before.before.before.before.before.before 1 (lit< tt)
 
-u8-at-requires-2 : tie.Need-u8-at-requires-2
+u8-at-requires-2 : tie.Need-u8_at-requires-2
 u8-at-requires-2 c κs = looked c.before.before.before.before.before.before.before.before 2 (lit< tt)
 
 returns : tie.Need-returns
@@ -52,13 +52,13 @@ returns c =
       carrier_offset = rate_at a.rates.now 2;
       trim = rate_at a.rates.now 3;
       agc_rms = rate_at a.rates.now 4;
-      taps = c.before.before.u32-at.ensures i;
-      bits = c.before.u8-at.ensures i;
-      block_log2 = c.u8-at2.ensures i;
+      taps = c.before.before.u32_at.ensures i;
+      bits = c.before.u8_at.ensures i;
+      block_log2 = c.u8_at-2.ensures i;
     }
 
-pub design-of-spec : {M : Type 1} → statement M
-design-of-spec =
+pub design_of_spec : {M : Type 1} → statement M
+design_of_spec =
     tie.close
     (tie.spec
     shared-slice-read-t4

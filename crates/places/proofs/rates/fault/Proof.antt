@@ -10,26 +10,26 @@ use Rattle.places.specs.Rates.{design_number}
 use Rattle.places.proofs.rates.fault.Statement.{statement}
 use Rattle.places.proofs.rates.fault.Tie as tie
 
-returns : tie.Need-returns
+returns : tie.Need-returns-then-rates-ne5
 unfolding design_number
-returns c = rw (ne_eqb (length c.before.before.args.rates.now) 5 c.if1.true) refl
+returns c = rw (ne_eqb (length c.before.before.args.rates.now) 5 c.if-rates-ne5.true) refl
 
-design-kinds-requires : tie.Need-design-kinds-requires
+design-kinds-requires : tie.Need-design_kinds-types-requires
 design-kinds-requires c κs = search rules
 
-slice-aggregate-fault : tie.Need-slice-aggregate-fault
+slice-aggregate-fault : tie.Need-slice_bounds-fault-end
 slice-aggregate-fault c = search rules
 
 fault-requires : tie.Need-fault-requires
 fault-requires c κs = search rules
 
-returns-2 : tie.Need-returns-2
+returns-2 : tie.Need-returns
 unfolding design_number
 returns-2 c =
     let kinds = c.before.before in
     let a = kinds.before.before.before.args in
-    rw (eq-eqb (length a.rates.now) 5 kinds.before.if1.false)
-    (c.fault.ensures ∙ ap (λ (l : List ℕ). places_number l a.fields.now) kinds.design-kinds.ensures)
+    rw (eq-eqb (length a.rates.now) 5 kinds.before.if-rates-ne5.false)
+    (c.fault.ensures ∙ ap (λ (l : List ℕ). places_number l a.fields.now) kinds.design_kinds-types.ensures)
 
-pub fault-spec : {M : Type 1} → statement M
-fault-spec = tie.close (tie.spec returns design-kinds-requires slice-aggregate-fault fault-requires returns-2)
+pub fault_spec : {M : Type 1} → statement M
+fault_spec = tie.close (tie.spec returns design-kinds-requires slice-aggregate-fault fault-requires returns-2)

@@ -15,19 +15,19 @@ use Rattle.places.proofs.rates.gains_of.Tie as tie
 looked : (s : tie.Start) (n : ℕ) → n < 8 → KindAt (get_or design_kinds n 0) s.args.fields.now n
 looked s n h = readable-at design_kinds s.args.fields.now s.requires n h
 
-i16-at-requires : tie.Need-i16-at-requires
+i16-at-requires : tie.Need-i16_at-requires
 i16-at-requires c κs = looked c 3 (lit< tt)
 
-u8-at-requires : tie.Need-u8-at-requires
+u8-at-requires : tie.Need-u8_at-requires
 u8-at-requires c κs = looked c.before 4 (lit< tt)
 
-i16-at-requires-2 : tie.Need-i16-at-requires-2
+i16-at-requires-2 : tie.Need-i16_at-requires-2
 i16-at-requires-2 c κs = looked c.before.before 5 (lit< tt)
 
-u8-at-requires-2 : tie.Need-u8-at-requires-2
+u8-at-requires-2 : tie.Need-u8_at-requires-2
 u8-at-requires-2 c κs = looked c.before.before.before 6 (lit< tt)
 
-u8-at-requires-3 : tie.Need-u8-at-requires-3
+u8-at-requires-3 : tie.Need-u8_at-requires-3
 u8-at-requires-3 c κs = looked c.before.before.before.before 7 (lit< tt)
 
 returns : tie.Need-returns
@@ -40,14 +40,14 @@ returns c =
     λ i.
     record {
       kp = kp-is i;
-      kp_shift = c.before.before.before.u8-at.ensures i;
+      kp_shift = c.before.before.before.u8_at.ensures i;
       ki = ki-is i;
-      ki_shift = c.before.u8-at2.ensures i;
-      q_shift = c.u8-at3.ensures i;
+      ki_shift = c.before.u8_at-2.ensures i;
+      q_shift = c.u8_at-3.ensures i;
     }
 
-pub gains-of-spec : {M : Type 1} → statement M
-gains-of-spec =
+pub gains_of_spec : {M : Type 1} → statement M
+gains_of_spec =
     tie.close
     (tie.spec
     i16-at-requires

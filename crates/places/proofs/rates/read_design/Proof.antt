@@ -8,34 +8,34 @@ use Rattle.places.proofs.Readable.{readable-design}
 use Rattle.places.proofs.rates.read_design.Statement.{statement}
 use Rattle.places.proofs.rates.read_design.Tie as tie
 
-fault-requires : tie.Need-fault-requires
+fault-requires : tie.Need-fault-number-requires
 fault-requires c κs = search rules
 
-returns : tie.Need-returns
+returns : tie.Need-returns-then-number-ne0
 unfolding read_design
 returns c =
     let number = c.before.fault in
     let a = c.before.before.before.args in
-    rw (ne_eqb (design_number a.rates.now a.fields.now) 0 (λ z. c.if1.true (number.ensures ∙ z))) (ap ReadDesign.Refused number.ensures)
+    rw (ne_eqb (design_number a.rates.now a.fields.now) 0 (λ z. c.if-number-ne0.true (number.ensures ∙ z))) (ap ReadDesign.Refused number.ensures)
 
 -- the design can be read
-none : (c : tie.Else1) → let a = c.before.before.before.args in design_number a.rates.now a.fields.now ≡ 0
-none c = sym c.before.fault.ensures ∙ c.if1.false
+none : (c : tie.Else-number-ne0) → let a = c.before.before.before.args in design_number a.rates.now a.fields.now ≡ 0
+none c = sym c.before.fault-number.ensures ∙ c.if-number-ne0.false
 
-design-of-requires : tie.Need-design-of-requires
+design-of-requires : tie.Need-design_of-requires
 design-of-requires c κs = none c
 
-gains-of-requires : tie.Need-gains-of-requires
+gains-of-requires : tie.Need-gains_of-requires
 gains-of-requires c κs = (readable-design _ _ (none c.before)).kinds
 
-returns-2 : tie.Need-returns-2
+returns-2 : tie.Need-returns
 unfolding read_design
 returns-2 c =
     let made = c.before in
     let a = made.before.before.before.before.args in
     rw (eq-eqb (design_number a.rates.now a.fields.now) 0 (none made.before))
-    (λ i. ReadDesign.Design (made.design-of.ensures i) (c.gains-of.ensures i))
+    (λ i. ReadDesign.Design (made.design_of.ensures i) (c.gains_of.ensures i))
 
-pub read-design-spec : {M : Type 1} → statement M
-read-design-spec =
+pub read_design_spec : {M : Type 1} → statement M
+read_design_spec =
     tie.close (tie.spec fault-requires returns design-of-requires gains-of-requires returns-2)

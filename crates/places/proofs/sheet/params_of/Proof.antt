@@ -23,60 +23,60 @@ signed w z h e = held w z h ∙ e
 looked : (s : tie.Start) (n : ℕ) → n < 18 → KindAt (get_or sheet_kinds n 0) s.args.sheet.now n
 looked s n h = sheet-at s.args.sheet.now s.requires n h
 
-u32-at-requires : tie.Need-u32-at-requires
+u32-at-requires : tie.Need-u32_at-requires
 u32-at-requires c κs = looked c 0 (lit< tt)
 
-i32-at-requires : tie.Need-i32-at-requires
+i32-at-requires : tie.Need-i32_at-requires
 i32-at-requires c κs = looked c.before 1 (lit< tt)
 
-u32-at-requires-2 : tie.Need-u32-at-requires-2
+u32-at-requires-2 : tie.Need-u32_at-requires-2
 u32-at-requires-2 c κs = looked c.before.before 2 (lit< tt)
 
-u32-at-requires-3 : tie.Need-u32-at-requires-3
+u32-at-requires-3 : tie.Need-u32_at-requires-3
 u32-at-requires-3 c κs = looked c.before.before.before 3 (lit< tt)
 
-u32-at-requires-4 : tie.Need-u32-at-requires-4
+u32-at-requires-4 : tie.Need-u32_at-requires-4
 u32-at-requires-4 c κs = looked c.before.before.before.before 4 (lit< tt)
 
-u8-at-requires : tie.Need-u8-at-requires
+u8-at-requires : tie.Need-u8_at-requires
 u8-at-requires c κs = looked c.before.before.before.before.before 5 (lit< tt)
 
-i16-at-requires : tie.Need-i16-at-requires
+i16-at-requires : tie.Need-i16_at-requires
 i16-at-requires c κs = looked c.before.before.before.before.before.before 6 (lit< tt)
 
-u8-at-requires-2 : tie.Need-u8-at-requires-2
+u8-at-requires-2 : tie.Need-u8_at-requires-2
 u8-at-requires-2 c κs = looked c.before.before.before.before.before.before.before 7 (lit< tt)
 
-i16-at-requires-2 : tie.Need-i16-at-requires-2
+i16-at-requires-2 : tie.Need-i16_at-requires-2
 i16-at-requires-2 c κs = looked c.before.before.before.before.before.before.before.before 8 (lit< tt)
 
-u8-at-requires-3 : tie.Need-u8-at-requires-3
+u8-at-requires-3 : tie.Need-u8_at-requires-3
 u8-at-requires-3 c κs = looked c.before.before.before.before.before.before.before.before.before 9 (lit< tt)
 
-i32-at-requires-2 : tie.Need-i32-at-requires-2
+i32-at-requires-2 : tie.Need-i32_at-requires-2
 i32-at-requires-2 c κs = looked c.before.before.before.before.before.before.before.before.before.before 10 (lit< tt)
 
-u32-at-requires-5 : tie.Need-u32-at-requires-5
+u32-at-requires-5 : tie.Need-u32_at-requires-5
 u32-at-requires-5 c κs = looked c.before.before.before.before.before.before.before.before.before.before.before 11 (lit< tt)
 
-u32-at-requires-6 : tie.Need-u32-at-requires-6
+u32-at-requires-6 : tie.Need-u32_at-requires-6
 u32-at-requires-6 c κs = looked c.before.before.before.before.before.before.before.before.before.before.before.before 12 (lit< tt)
 
-u8-at-requires-4 : tie.Need-u8-at-requires-4
+u8-at-requires-4 : tie.Need-u8_at-requires-4
 u8-at-requires-4 c κs = looked c.before.before.before.before.before.before.before.before.before.before.before.before.before 13 (lit< tt)
 
-u8-at-requires-5 : tie.Need-u8-at-requires-5
+u8-at-requires-5 : tie.Need-u8_at-requires-5
 u8-at-requires-5 c κs = looked c.before.before.before.before.before.before.before.before.before.before.before.before.before.before 14 (lit< tt)
 
-u8-at-requires-6 : tie.Need-u8-at-requires-6
+u8-at-requires-6 : tie.Need-u8_at-requires-6
 u8-at-requires-6 c κs = looked c.before.before.before.before.before.before.before.before.before.before.before.before.before.before.before 15
     (lit< tt)
 
-u8-at-requires-7 : tie.Need-u8-at-requires-7
+u8-at-requires-7 : tie.Need-u8_at-requires-7
 u8-at-requires-7 c κs = looked
     c.before.before.before.before.before.before.before.before.before.before.before.before.before.before.before.before 16 (lit< tt)
 
-u8-at-requires-8 : tie.Need-u8-at-requires-8
+u8-at-requires-8 : tie.Need-u8_at-requires-8
 u8-at-requires-8 c κs = looked
     c.before.before.before.before.before.before.before.before.before.before.before.before.before.before.before.before.before 17 (lit< tt)
 
@@ -90,28 +90,28 @@ returns c =
     let step = max.before.before.before in
     λ i.
     record {
-      taps = step.before.u32-at.ensures i;
-      nco_step = signed w32 step.i32-at.result step.i32-at.type-inv step.i32-at.ensures i;
-      period_nominal = max.before.before.u32-at2.ensures i;
-      period_min = max.before.u32-at3.ensures i;
-      period_max = max.u32-at4.ensures i;
-      ted_shift = kp.before.u8-at.ensures i;
-      kp = signed w16 kp.i16-at.result kp.i16-at.type-inv kp.i16-at.ensures i;
-      kp_shift = ki.before.u8-at2.ensures i;
-      ki = signed w16 ki.i16-at2.result ki.i16-at2.type-inv ki.i16-at2.ensures i;
-      ki_shift = end.before.u8-at3.ensures i;
-      integrator_max = signed w32 end.i32-at2.result end.i32-at2.type-inv end.i32-at2.ensures i;
-      agc_init = c.before.before.before.before.before.before.u32-at5.ensures i;
-      agc_target = c.before.before.before.before.before.u32-at6.ensures i;
-      agc_shift = c.before.before.before.before.u8-at4.ensures i;
-      bits = c.before.before.before.u8-at5.ensures i;
-      q_shift = c.before.before.u8-at6.ensures i;
-      block_log2 = c.before.u8-at7.ensures i;
-      delay = c.u8-at8.ensures i;
+      taps = step.before.u32_at.ensures i;
+      nco_step = signed w32 step.i32_at.result step.i32_at.type-inv step.i32_at.ensures i;
+      period_nominal = max.before.before.u32_at-2.ensures i;
+      period_min = max.before.u32_at-3.ensures i;
+      period_max = max.u32_at-4.ensures i;
+      ted_shift = kp.before.u8_at.ensures i;
+      kp = signed w16 kp.i16_at.result kp.i16_at.type-inv kp.i16_at.ensures i;
+      kp_shift = ki.before.u8_at-2.ensures i;
+      ki = signed w16 ki.i16_at-2.result ki.i16_at-2.type-inv ki.i16_at-2.ensures i;
+      ki_shift = end.before.u8_at-3.ensures i;
+      integrator_max = signed w32 end.i32_at-2.result end.i32_at-2.type-inv end.i32_at-2.ensures i;
+      agc_init = c.before.before.before.before.before.before.u32_at-5.ensures i;
+      agc_target = c.before.before.before.before.before.u32_at-6.ensures i;
+      agc_shift = c.before.before.before.before.u8_at-4.ensures i;
+      bits = c.before.before.before.u8_at-5.ensures i;
+      q_shift = c.before.before.u8_at-6.ensures i;
+      block_log2 = c.before.u8_at-7.ensures i;
+      delay = c.u8_at-8.ensures i;
     }
 
-pub params-of-spec : {M : Type 1} → statement M
-params-of-spec =
+pub params_of_spec : {M : Type 1} → statement M
+params_of_spec =
     tie.close
     (tie.spec
     u32-at-requires

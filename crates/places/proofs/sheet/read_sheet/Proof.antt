@@ -10,38 +10,38 @@ use Rattle.places.specs.Sheet.{sheet_number, read_sheet}
 use Rattle.places.proofs.sheet.read_sheet.Statement.{statement}
 use Rattle.places.proofs.sheet.read_sheet.Tie as tie
 
-sheet-kinds-requires : tie.Need-sheet-kinds-requires
+sheet-kinds-requires : tie.Need-sheet_kinds-types-requires
 sheet-kinds-requires c κs = search rules
 
-slice-aggregate-fault : tie.Need-slice-aggregate-fault
+slice-aggregate-fault : tie.Need-slice_bounds-fault-end
 slice-aggregate-fault c = search rules
 
-fault-requires : tie.Need-fault-requires
+fault-requires : tie.Need-fault-number-requires
 fault-requires c κs = search rules
 
 -- the number is the sheet's
-numbered : (c : tie.After-fault) → c.fault.result ≡ sheet_number c.before.before.before.args.sheet.now
+numbered : (c : tie.After-fault-number) → c.fault-number.result ≡ sheet_number c.before.before.before.args.sheet.now
 numbered c =
     let types = c.before.before in
-    c.fault.ensures ∙ ap (λ (kinds : List ℕ). places_number kinds types.before.args.sheet.now) types.sheet-kinds.ensures
+    c.fault-number.ensures ∙ ap (λ (kinds : List ℕ). places_number kinds types.before.args.sheet.now) types.sheet_kinds-types.ensures
 
-returns : tie.Need-returns
+returns : tie.Need-returns-then-number-ne0
 unfolding read_sheet
 returns c =
     let l = c.before.before.before.before.args.sheet.now in
-    rw (ne_eqb (sheet_number l) 0 (λ z. c.if1.true (numbered c.before ∙ z))) (ap ReadSheet.Refused (numbered c.before))
+    rw (ne_eqb (sheet_number l) 0 (λ z. c.if-number-ne0.true (numbered c.before ∙ z))) (ap ReadSheet.Refused (numbered c.before))
 
-params-of-requires : tie.Need-params-of-requires
-params-of-requires c κs = sym (numbered c.before) ∙ c.if1.false
+params-of-requires : tie.Need-params_of-requires
+params-of-requires c κs = sym (numbered c.before) ∙ c.if-number-ne0.false
 
-returns-2 : tie.Need-returns-2
+returns-2 : tie.Need-returns
 unfolding read_sheet
 returns-2 c =
     let l = c.before.before.before.before.before.args.sheet.now in
-    rw (eq-eqb (sheet_number l) 0 (sym (numbered c.before.before) ∙ c.before.if1.false)) (ap ReadSheet.Sheet c.params_of.ensures)
+    rw (eq-eqb (sheet_number l) 0 (sym (numbered c.before.before) ∙ c.before.if-number-ne0.false)) (ap ReadSheet.Sheet c.params_of.ensures)
 
-pub read-sheet-spec : {M : Type 1} → statement M
-read-sheet-spec =
+pub read_sheet_spec : {M : Type 1} → statement M
+read_sheet_spec =
     tie.close
     (tie.spec
     sheet-kinds-requires

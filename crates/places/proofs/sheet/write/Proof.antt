@@ -18,143 +18,143 @@ use Rattle.places.proofs.Widths.{widens-16, widens-32, widened-16, widened-32, p
 use Rattle.places.proofs.sheet.write.Statement.{statement}
 use Rattle.places.proofs.sheet.write.Tie as tie
 
-cast-sheet : tie.Need-overflow-cast-sheet
+cast-sheet : tie.Need-overflow_cast-sheet
 cast-sheet c = search rules
 
-slice-set-from-sheet : tie.Need-slice-set-from-sheet
+slice-set-from-sheet : tie.Need-bounds-sheet-0
 slice-set-from-sheet c = search rules
 
-cast-sheet-2 : tie.Need-overflow-cast-sheet-2
-cast-sheet-2 c = search (widens-32, c.struct_told.given) depth 40
+cast-sheet-2 : tie.Need-overflow_cast-sheet-2
+cast-sheet-2 c = search (widens-32, c.struct_told-1.given) depth 40
 
-slice-set-from-sheet-2 : tie.Need-slice-set-from-sheet-2
+slice-set-from-sheet-2 : tie.Need-bounds-sheet-1
 slice-set-from-sheet-2 c = simp length-set (omega (arith, c.before.before.before.requires))
 
-cast-sheet-3 : tie.Need-overflow-cast-sheet-3
+cast-sheet-3 : tie.Need-overflow_cast-sheet-3
 cast-sheet-3 c = search rules
 
-slice-set-from-sheet-3 : tie.Need-slice-set-from-sheet-3
+slice-set-from-sheet-3 : tie.Need-bounds-sheet-2
 slice-set-from-sheet-3 c = simp length-set (omega (arith, c.before.before.before.before.requires))
 
-cast-sheet-4 : tie.Need-overflow-cast-sheet-4
+cast-sheet-4 : tie.Need-overflow_cast-sheet-4
 cast-sheet-4 c = search rules
 
-slice-set-from-sheet-4 : tie.Need-slice-set-from-sheet-4
+slice-set-from-sheet-4 : tie.Need-bounds-sheet-3
 slice-set-from-sheet-4 c = simp length-set (omega (arith, c.before.before.before.before.before.requires))
 
-cast-sheet-5 : tie.Need-overflow-cast-sheet-5
+cast-sheet-5 : tie.Need-overflow_cast-sheet-5
 cast-sheet-5 c = search rules
 
-slice-set-from-sheet-5 : tie.Need-slice-set-from-sheet-5
+slice-set-from-sheet-5 : tie.Need-bounds-sheet-4
 slice-set-from-sheet-5 c = simp length-set (omega (arith, c.before.before.before.before.before.before.requires))
 
-cast-sheet-6 : tie.Need-overflow-cast-sheet-6
+cast-sheet-6 : tie.Need-overflow_cast-sheet-6
 cast-sheet-6 c = search rules
 
-slice-set-from-sheet-6 : tie.Need-slice-set-from-sheet-6
+slice-set-from-sheet-6 : tie.Need-bounds-sheet-5
 slice-set-from-sheet-6 c = simp length-set (omega (arith, c.before.before.before.before.before.before.before.requires))
 
-cast-sheet-7 : tie.Need-overflow-cast-sheet-7
-cast-sheet-7 c = search (widens-16, c.struct-told2.given) depth 40
+cast-sheet-7 : tie.Need-overflow_cast-sheet-7
+cast-sheet-7 c = search (widens-16, c.struct_told-2-1.given) depth 40
 
-slice-set-from-sheet-7 : tie.Need-slice-set-from-sheet-7
+slice-set-from-sheet-7 : tie.Need-bounds-sheet-6
 slice-set-from-sheet-7 c = simp length-set (omega (arith, c.before.before.before.before.before.before.before.before.before.requires))
 
-cast-sheet-8 : tie.Need-overflow-cast-sheet-8
+cast-sheet-8 : tie.Need-overflow_cast-sheet-8
 cast-sheet-8 c = search rules
 
-slice-set-from-sheet-8 : tie.Need-slice-set-from-sheet-8
+slice-set-from-sheet-8 : tie.Need-bounds-sheet-7
 slice-set-from-sheet-8 c = simp length-set (omega (arith, c.before.before.before.before.before.before.before.before.before.before.requires))
 
-cast-sheet-9 : tie.Need-overflow-cast-sheet-9
-cast-sheet-9 c = search (widens-16, c.struct-told3.given) depth 40
+cast-sheet-9 : tie.Need-overflow_cast-sheet-9
+cast-sheet-9 c = search (widens-16, c.struct_told-3-1.given) depth 40
 
-slice-set-from-sheet-9 : tie.Need-slice-set-from-sheet-9
+slice-set-from-sheet-9 : tie.Need-bounds-sheet-8
 slice-set-from-sheet-9 c = simp length-set
     (omega (arith, c.before.before.before.before.before.before.before.before.before.before.before.before.requires))
 
-cast-sheet-10 : tie.Need-overflow-cast-sheet-10
-cast-sheet-10 c = places-8 _ c.struct-known10.given.1.1.1.1.1.1.1.1.1.0
+cast-sheet-10 : tie.Need-overflow_cast-sheet-10
+cast-sheet-10 c = places-8 _ c.struct_known-10-1.given.1.1.1.1.1.1.1.1.1.0
 
-slice-set-from-sheet-10 : tie.Need-slice-set-from-sheet-10
+slice-set-from-sheet-10 : tie.Need-bounds-sheet-9
 slice-set-from-sheet-10 c = simp length-set
     (omega (arith, c.before.before.before.before.before.before.before.before.before.before.before.before.before.requires))
 
-cast-sheet-11 : tie.Need-overflow-cast-sheet-11
-cast-sheet-11 c = search (widens-32, c.struct-told4.given) depth 40
+cast-sheet-11 : tie.Need-overflow_cast-sheet-11
+cast-sheet-11 c = search (widens-32, c.struct_told-4-1.given) depth 40
 
-slice-set-from-sheet-11 : tie.Need-slice-set-from-sheet-11
+slice-set-from-sheet-11 : tie.Need-bounds-sheet-10
 slice-set-from-sheet-11 c = simp length-set
     (omega (arith, c.before.before.before.before.before.before.before.before.before.before.before.before.before.before.before.requires))
 
-cast-sheet-12 : tie.Need-overflow-cast-sheet-12
-cast-sheet-12 c = places-32 _ c.struct-known12.given.1.1.1.1.1.1.1.1.1.1.1.0
+cast-sheet-12 : tie.Need-overflow_cast-sheet-12
+cast-sheet-12 c = places-32 _ c.struct_known-12-1.given.1.1.1.1.1.1.1.1.1.1.1.0
 
-slice-set-from-sheet-12 : tie.Need-slice-set-from-sheet-12
+slice-set-from-sheet-12 : tie.Need-bounds-sheet-11
 slice-set-from-sheet-12 c = simp length-set
     (omega (arith, c.before.before.before.before.before.before.before.before.before.before.before.before.before.before.before.before.requires))
 
-cast-sheet-13 : tie.Need-overflow-cast-sheet-13
-cast-sheet-13 c = places-32 _ c.struct-known13.given.1.1.1.1.1.1.1.1.1.1.1.1.0
+cast-sheet-13 : tie.Need-overflow_cast-sheet-13
+cast-sheet-13 c = places-32 _ c.struct_known-13-1.given.1.1.1.1.1.1.1.1.1.1.1.1.0
 
-slice-set-from-sheet-13 : tie.Need-slice-set-from-sheet-13
+slice-set-from-sheet-13 : tie.Need-bounds-sheet-12
 slice-set-from-sheet-13 c = simp length-set
     (omega (
       arith,
       c.before.before.before.before.before.before.before.before.before.before.before.before.before.before.before.before.before.requires,
     ))
 
-cast-sheet-14 : tie.Need-overflow-cast-sheet-14
-cast-sheet-14 c = places-8 _ c.struct-known14.given.1.1.1.1.1.1.1.1.1.1.1.1.1.0
+cast-sheet-14 : tie.Need-overflow_cast-sheet-14
+cast-sheet-14 c = places-8 _ c.struct_known-14-1.given.1.1.1.1.1.1.1.1.1.1.1.1.1.0
 
-slice-set-from-sheet-14 : tie.Need-slice-set-from-sheet-14
+slice-set-from-sheet-14 : tie.Need-bounds-sheet-13
 slice-set-from-sheet-14 c = simp length-set
     (omega (
       arith,
       c.before.before.before.before.before.before.before.before.before.before.before.before.before.before.before.before.before.before.requires,
     ))
 
-cast-sheet-15 : tie.Need-overflow-cast-sheet-15
-cast-sheet-15 c = places-8 _ c.struct-known15.given.1.1.1.1.1.1.1.1.1.1.1.1.1.1.0
+cast-sheet-15 : tie.Need-overflow_cast-sheet-15
+cast-sheet-15 c = places-8 _ c.struct_known-15-1.given.1.1.1.1.1.1.1.1.1.1.1.1.1.1.0
 
-slice-set-from-sheet-15 : tie.Need-slice-set-from-sheet-15
+slice-set-from-sheet-15 : tie.Need-bounds-sheet-14
 slice-set-from-sheet-15 c = simp length-set
     (omega (
       arith,
       c.before.before.before.before.before.before.before.before.before.before.before.before.before.before.before.before.before.before.before.requires,
     ))
 
-cast-sheet-16 : tie.Need-overflow-cast-sheet-16
-cast-sheet-16 c = places-8 _ c.struct-known16.given.1.1.1.1.1.1.1.1.1.1.1.1.1.1.1.0
+cast-sheet-16 : tie.Need-overflow_cast-sheet-16
+cast-sheet-16 c = places-8 _ c.struct_known-16-1.given.1.1.1.1.1.1.1.1.1.1.1.1.1.1.1.0
 
-slice-set-from-sheet-16 : tie.Need-slice-set-from-sheet-16
+slice-set-from-sheet-16 : tie.Need-bounds-sheet-15
 slice-set-from-sheet-16 c = simp length-set
     (omega (
       arith,
       c.before.before.before.before.before.before.before.before.before.before.before.before.before.before.before.before.before.before.before.before.requires,
     ))
 
-cast-sheet-17 : tie.Need-overflow-cast-sheet-17
-cast-sheet-17 c = places-8 _ c.struct-known17.given.1.1.1.1.1.1.1.1.1.1.1.1.1.1.1.1.0
+cast-sheet-17 : tie.Need-overflow_cast-sheet-17
+cast-sheet-17 c = places-8 _ c.struct_known-17-1.given.1.1.1.1.1.1.1.1.1.1.1.1.1.1.1.1.0
 
-slice-set-from-sheet-17 : tie.Need-slice-set-from-sheet-17
+slice-set-from-sheet-17 : tie.Need-bounds-sheet-16
 slice-set-from-sheet-17 c = simp length-set
     (omega (
       arith,
       c.before.before.before.before.before.before.before.before.before.before.before.before.before.before.before.before.before.before.before.before.before.requires,
     ))
 
-cast-sheet-18 : tie.Need-overflow-cast-sheet-18
-cast-sheet-18 c = places-8 _ c.struct-known18.given.1.1.1.1.1.1.1.1.1.1.1.1.1.1.1.1.1.0
+cast-sheet-18 : tie.Need-overflow_cast-sheet-18
+cast-sheet-18 c = places-8 _ c.struct_known-18-1.given.1.1.1.1.1.1.1.1.1.1.1.1.1.1.1.1.1.0
 
-slice-set-from-sheet-18 : tie.Need-slice-set-from-sheet-18
+slice-set-from-sheet-18 : tie.Need-bounds-sheet-17
 slice-set-from-sheet-18 c = simp length-set
     (omega (
       arith,
       c.before.before.before.before.before.before.before.before.before.before.before.before.before.before.before.before.before.before.before.before.before.before.requires,
     ))
 
-same_length : tie.Need-same-length
+same_length : tie.Need-shape_of-sheet
 same_length c = simp length-set
 
 -- the fields are numbers of their types
@@ -222,11 +222,11 @@ stored p l t long =
 returns : tie.Need-returns
 returns c =
     let s = c.before.before.before.before.before.before.before.before.before.before.before.before.before.before.before.before.before.before.before.before.before.before in
-    let known = c.struct-known18.given in
+    let known = c.struct_known-18-1.given in
     let after-step = known.1.1 in
     let after-kp = after-step.1.1.1.1.1 in
     let after-max = after-kp.1.1.1.1 in
-    let told = c.before.before.before.before.before.before.before.struct-told4.given in
+    let told = c.before.before.before.before.before.before.before.struct_told-4-1.given in
     let from-kp = told.1.1.1.1.1.1 in
     stored s.args.p s.args.sheet.now
     (record {
@@ -249,7 +249,7 @@ returns c =
       block_log2 = after-max.1.1.1.1.1.0;
       delay = after-max.1.1.1.1.1.1.0;
     })
-    s.pre
+    s.requires
 
 pub write_spec : {M : Type 1} → statement M
 write_spec =

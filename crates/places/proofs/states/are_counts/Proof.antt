@@ -5,29 +5,29 @@ use Rattle.places.specs.States.{are_counts}
 use Rattle.places.proofs.states.are_counts.Statement.{statement}
 use Rattle.places.proofs.states.are_counts.Tie as tie
 
-returns : tie.Need-returns
+returns : tie.Need-returns-then-symbols-gt9223372036854775807
 unfolding are_counts
-returns c = simp (lt-leb _ _ c.if1.true)
+returns c = simp (lt-leb _ _ c.if-symbols-gt9223372036854775807.true)
 
-returns-2 : tie.Need-returns-2
+returns-2 : tie.Need-returns-then-head-gt9223372036854775807
 unfolding are_counts
-returns-2 c = simp (le-leb _ _ c.before.if1.false, lt-leb _ _ c.if2.true)
+returns-2 c = simp (le-leb _ _ c.before.if-symbols-gt9223372036854775807.false, lt-leb _ _ c.if-head-gt9223372036854775807.true)
 
-returns-3 : tie.Need-returns-3
+returns-3 : tie.Need-returns-then-oldest-gt9223372036854775807
 unfolding are_counts
-returns-3 c = simp (le-leb _ _ c.before.before.if1.false, le-leb _ _ c.before.if2.false, lt-leb _ _ c.if3.true)
+returns-3 c = simp (le-leb _ _ c.before.before.if-symbols-gt9223372036854775807.false, le-leb _ _ c.before.if-head-gt9223372036854775807.false, lt-leb _ _ c.if-oldest-gt9223372036854775807.true)
 
-returns-4 : tie.Need-returns-4
+returns-4 : tie.Need-returns-then-waiting-gt9223372036854775807
 unfolding are_counts
 returns-4 c =
     let third = c.before in
-    simp (le-leb _ _ third.before.before.if1.false, le-leb _ _ third.before.if2.false, le-leb _ _ third.if3.false, lt-leb _ _ c.if4.true)
+    simp (le-leb _ _ third.before.before.if-symbols-gt9223372036854775807.false, le-leb _ _ third.before.if-head-gt9223372036854775807.false, le-leb _ _ third.if-oldest-gt9223372036854775807.false, lt-leb _ _ c.if-waiting-gt9223372036854775807.true)
 
-returns-5 : tie.Need-returns-5
+returns-5 : tie.Need-returns
 unfolding are_counts
 returns-5 c =
     let third = c.before in
-    rw (le-leb _ _ third.before.before.if1.false, le-leb _ _ third.before.if2.false, le-leb _ _ third.if3.false, le-leb _ _ c.if4.false) refl
+    rw (le-leb _ _ third.before.before.if-symbols-gt9223372036854775807.false, le-leb _ _ third.before.if-head-gt9223372036854775807.false, le-leb _ _ third.if-oldest-gt9223372036854775807.false, le-leb _ _ c.if-waiting-gt9223372036854775807.false) refl
 
-pub are-counts-spec : {M : Type 1} → statement M
-are-counts-spec = tie.close (tie.spec returns returns-2 returns-3 returns-4 returns-5)
+pub are_counts_spec : {M : Type 1} → statement M
+are_counts_spec = tie.close (tie.spec returns returns-2 returns-3 returns-4 returns-5)

@@ -16,60 +16,60 @@ use Rattle.places.proofs.states.pending_of.Tie as tie
 abbrev pair : ℤ → ℤ → Pending
 pair a b = record { e = a; err = b }
 
-abbrev invariant-loop : tie.invariant-loop
+abbrev invariant-loop : tie.invariant-loop-n
 invariant-loop numbers pending₀ n₀ pending n = Taken pair no_pending 24 numbers n pending
 
-abbrev decreases-loop : tie.decreases-loop
+abbrev decreases-loop : tie.decreases-loop-n
 decreases-loop numbers pending₀ n₀ pending n = 24 - n
 
-loop-holds : tie.Need-loop-init invariant-loop decreases-loop
+loop-holds : tie.Need-loop-n-init invariant-loop decreases-loop
 loop-holds c = taken_none
 
-mul-t6 : tie.Need-overflow-mul-t6 invariant-loop decreases-loop
+mul-t6 : tie.Need-overflow_mul-pending invariant-loop decreases-loop
 mul-t6 c = search rules
 
-mul-t7 : tie.Need-overflow-mul-t7 invariant-loop decreases-loop
+mul-t7 : tie.Need-offset_bounds-numbers-n invariant-loop decreases-loop
 mul-t7 c = search rules
 
-shared-slice-copy-out-t9 : tie.Need-shared-slice-copy-out-t9 invariant-loop decreases-loop
+shared-slice-copy-out-t9 : tie.Need-bounds-numbers-n invariant-loop decreases-loop
 shared-slice-copy-out-t9 c = omega arith
 
-mul-t10 : tie.Need-overflow-mul-t10 invariant-loop decreases-loop
+mul-t10 : tie.Need-overflow_mul-pending-in-loop-n invariant-loop decreases-loop
 mul-t10 c = search rules
 
-add-t11 : tie.Need-overflow-add-t11 invariant-loop decreases-loop
+add-t11 : tie.Need-overflow_add-pending invariant-loop decreases-loop
 add-t11 c = search rules
 
-mul-t12 : tie.Need-overflow-mul-t12 invariant-loop decreases-loop
+mul-t12 : tie.Need-offset_bounds-numbers-n-in-loop-n invariant-loop decreases-loop
 mul-t12 c = search rules
 
-shared-slice-copy-out-t14 : tie.Need-shared-slice-copy-out-t14 invariant-loop decreases-loop
+shared-slice-copy-out-t14 : tie.Need-bounds-numbers-n-in-loop-n invariant-loop decreases-loop
 shared-slice-copy-out-t14 c = omega arith
 
-mul-pending : tie.Need-overflow-mul-pending invariant-loop decreases-loop
+mul-pending : tie.Need-overflow_mul-pending invariant-loop decreases-loop
 mul-pending c = search rules
 
-array-set-from-pending : tie.Need-array-set-from-pending invariant-loop decreases-loop
+array-set-from-pending : tie.Need-bounds-pending-n invariant-loop decreases-loop
 array-set-from-pending c = search rules
 
-add-n : tie.Need-overflow-add-n invariant-loop decreases-loop
+add-n : tie.Need-overflow_add-n invariant-loop decreases-loop
 add-n c = search rules
 
-loop-less : tie.Need-loop-smaller invariant-loop decreases-loop
+loop-less : tie.Need-loop-n-smaller invariant-loop decreases-loop
 loop-less c = search rules
 
-loop-again : tie.Need-loop-preserved invariant-loop decreases-loop
+loop-again : tie.Need-loop-n-preserved invariant-loop decreases-loop
 loop-again c =
     let l = c.before.before.before.loop in
     let numbers = c.before.before.before.before.args.numbers.now in
-    simp (held w32 (get_or numbers (2 * l.n) (pos 0)) c.before.t9.given, held w32 (get_or numbers (2 * l.n + 1) (pos 0)) c.t14.given)
+    simp (held w32 (get_or numbers (2 * l.n) (pos 0)) c.before.pending-1.given, held w32 (get_or numbers (2 * l.n + 1) (pos 0)) c.pending-in-loop-n-1.given)
     (taken_next l.invariant (omega arith))
 
 returns : tie.Need-returns invariant-loop decreases-loop
-returns c = taken-all c.before.loop.invariant (omega arith) c.before.before.requires
+returns c = taken-all c.before.loop-n.invariant (omega arith) c.before.before.requires
 
-pub pending-of-spec : {M : Type 1} → statement M
-pending-of-spec =
+pub pending_of_spec : {M : Type 1} → statement M
+pending_of_spec =
     tie.close
     (tie.spec
     invariant-loop

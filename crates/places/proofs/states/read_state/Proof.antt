@@ -20,7 +20,7 @@ use Rattle.places.proofs.states.read_state.Tie as tie
 abbrev given : tie.Start → Slices
 given s = slices s.args.places.now s.args.line.now s.args.errors.now
 
-is-state-requires : tie.Need-is-state-requires
+is-state-requires : tie.Need-is_state-requires
 is-state-requires c κs = search rules
 
 none-requires : tie.Need-none-requires
@@ -29,64 +29,64 @@ none-requires c κs = search rules
 fresh-requires : tie.Need-fresh-requires
 fresh-requires c κs = search rules
 
-returns : tie.Need-returns
+returns : tie.Need-returns-then-not-is_state
 unfolding read_state
 returns c =
     let tested = c.before.before.before in
     let unfit : state_fits (given tested.before) ≡ false =
-    sym tested.is_state.ensures ∙ not-true tested.is_state.result c.before.before.if1.true in
+    sym tested.is_state.ensures ∙ not-true tested.is_state.result c.before.before.if-not-is_state.true in
     rw unfit (c.fresh.ensures ∙ ap fresh c.before.none.ensures)
 
 -- ---- slices that are a state
 
-fitting : (c : tie.Else1) → state_fits (given c.before.before) ≡ true
-fitting c = sym c.before.is_state.ensures ∙ not-false c.before.is_state.result c.if1.false
+fitting : (c : tie.Else-not-is_state) → state_fits (given c.before.before) ≡ true
+fitting c = sym c.before.is_state.ensures ∙ not-false c.before.is_state.result c.if-not-is_state.false
 
-readable : (c : tie.Else1) → ReadableState (given c.before.before)
+readable : (c : tie.Else-not-is_state) → ReadableState (given c.before.before)
 readable c = readable-state (given c.before.before) (fitting c)
 
 -- each of the first places was looked at
-looked : (c : tie.Else1) (n : ℕ) → n < 10 → KindAt (get_or first_kinds n 0) c.before.before.args.places.now n
+looked : (c : tie.Else-not-is_state) (n : ℕ) → n < 10 → KindAt (get_or first_kinds n 0) c.before.before.args.places.now n
 looked c n h = first-at _ (first_fits (readable c)) n h
 
-sub-params-of : tie.Need-overflow-sub-params-of
+sub-params-of : tie.Need-slice_bounds-params_of-count
 sub-params-of c = let r = readable c in omega arith
 
-part-params-of-start : tie.Need-slice-bounds-params-of-start
+part-params-of-start : tie.Need-slice_bounds-params_of-start
 part-params-of-start c = let r = readable c in omega arith
 
-part-params-of-end : tie.Need-slice-bounds-params-of-end
+part-params-of-end : tie.Need-slice_bounds-params_of-end
 part-params-of-end c = search rules
 
 -- the places behind the first ten, as they are lent
-behind : (c : tie.Else1) → let l = c.before.before.args.places.now in take (length l - 10) (drop 10 l) ≡ drop 10 l
+behind : (c : tie.Else-not-is_state) → let l = c.before.before.args.places.now in take (length l - 10) (drop 10 l) ≡ drop 10 l
 behind c = let l = c.before.before.args.places.now in take_all (length l - 10) (drop 10 l) (omega (arith, length-drop 10 l))
 
-params-of-requires : tie.Need-params-of-requires
+params-of-requires : tie.Need-params_of-requires
 params-of-requires c κs = let e = c.before in ap sheet_number (behind e) ∙ sheet-fits (readable e)
 
-registers-of-requires : tie.Need-registers-of-requires
+registers-of-requires : tie.Need-registers_of-requires
 registers-of-requires c κs = first_fits (readable c.before.before)
 
-line-of-requires : tie.Need-line-of-requires
+line-of-requires : tie.Need-line_of-requires
 line-of-requires c κs = (readable c.before.before.before).long-line
 
-count-at-requires : tie.Need-count-at-requires
+count-at-requires : tie.Need-count_at-requires
 count-at-requires c κs = looked c.before.before.before.before 6 (lit< tt)
 
-pending-of-requires : tie.Need-pending-of-requires
+pending-of-requires : tie.Need-pending_of-requires
 pending-of-requires c κs = (readable c.before.before.before.before.before).long-errors
 
-count-at-requires-2 : tie.Need-count-at-requires-2
+count-at-requires-2 : tie.Need-count_at-requires-2
 count-at-requires-2 c κs = looked c.before.before.before.before.before.before 7 (lit< tt)
 
-count-at-requires-3 : tie.Need-count-at-requires-3
+count-at-requires-3 : tie.Need-count_at-requires-3
 count-at-requires-3 c κs = looked c.before.before.before.before.before.before.before 8 (lit< tt)
 
-count-at-requires-4 : tie.Need-count-at-requires-4
+count-at-requires-4 : tie.Need-count_at-requires-4
 count-at-requires-4 c κs = looked c.before.before.before.before.before.before.before.before 9 (lit< tt)
 
-returns-2 : tie.Need-returns-2
+returns-2 : tie.Need-returns
 unfolding read_state state_of
 returns-2 c =
     let pending = c.before.before.before in
@@ -98,17 +98,17 @@ returns-2 c =
     (λ i.
     record {
       params = (params.params_of.ensures ∙ ap params_at (behind e)) i;
-      registers = registers.registers-of.ensures i;
+      registers = registers.registers_of.ensures i;
       line = line.Line-of.ensures i;
       head = pending.before.count_at.ensures i;
-      pending = pending.pending-of.ensures i;
-      oldest = c.before.before.count-at2.ensures i;
-      waiting = c.before.count-at3.ensures i;
-      samples = c.count-at4.ensures i;
+      pending = pending.pending_of.ensures i;
+      oldest = c.before.before.count_at-2.ensures i;
+      waiting = c.before.count_at-3.ensures i;
+      samples = c.count_at-4.ensures i;
     })
 
-pub read-state-spec : {M : Type 1} → statement M
-read-state-spec =
+pub read_state_spec : {M : Type 1} → statement M
+read_state_spec =
     tie.close
     (tie.spec
     is-state-requires

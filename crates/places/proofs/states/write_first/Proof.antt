@@ -22,61 +22,61 @@ use Rattle.places.proofs.states.write_first.Tie as tie
 small : (s : tie.Start) → Placed s.args.f
 small s = placed s.args.f s.requires.1
 
-cast-places : tie.Need-overflow-cast-places
+cast-places : tie.Need-overflow_cast-places
 cast-places c = search rules
 
-slice-set-from-places : tie.Need-slice-set-from-places
+slice-set-from-places : tie.Need-bounds-places-0
 slice-set-from-places c = search rules
 
-slice-set-from-t : tie.Need-slice-set-from-t
+slice-set-from-t : tie.Need-bounds-places-1
 slice-set-from-t c = simp length-set (omega arith)
 
-slice-set-from-v : tie.Need-slice-set-from-v
+slice-set-from-v : tie.Need-bounds-places-2
 slice-set-from-v c = simp length-set (omega arith)
 
-cast-places-2 : tie.Need-overflow-cast-places-2
+cast-places-2 : tie.Need-overflow_cast-places-2
 cast-places-2 c = search rules
 
-slice-set-from-places-2 : tie.Need-slice-set-from-places-2
+slice-set-from-places-2 : tie.Need-bounds-places-3
 slice-set-from-places-2 c = simp length-set (omega arith)
 
-cast-places-3 : tie.Need-overflow-cast-places-3
+cast-places-3 : tie.Need-overflow_cast-places-3
 cast-places-3 c = search rules
 
-slice-set-from-places-3 : tie.Need-slice-set-from-places-3
+slice-set-from-places-3 : tie.Need-bounds-places-4
 slice-set-from-places-3 c = simp length-set (omega (arith, c.before.before.before.before.before.before.requires.0))
 
-cast-places-4 : tie.Need-overflow-cast-places-4
+cast-places-4 : tie.Need-overflow_cast-places-4
 cast-places-4 c = let p = small c.before.before.before.before.before.before.before in sfit (omega arith)
 
-slice-set-from-places-4 : tie.Need-slice-set-from-places-4
+slice-set-from-places-4 : tie.Need-bounds-places-5
 slice-set-from-places-4 c = simp length-set (omega (arith, c.before.before.before.before.before.before.before.requires.0))
 
-cast-places-5 : tie.Need-overflow-cast-places-5
+cast-places-5 : tie.Need-overflow_cast-places-5
 cast-places-5 c = let p = small c.before.before.before.before.before.before.before.before in sfit (omega arith)
 
-slice-set-from-places-5 : tie.Need-slice-set-from-places-5
+slice-set-from-places-5 : tie.Need-bounds-places-6
 slice-set-from-places-5 c = simp length-set (omega (arith, c.before.before.before.before.before.before.before.before.requires.0))
 
-cast-places-6 : tie.Need-overflow-cast-places-6
+cast-places-6 : tie.Need-overflow_cast-places-6
 cast-places-6 c = let p = small c.before.before.before.before.before.before.before.before.before in sfit (omega arith)
 
-slice-set-from-places-6 : tie.Need-slice-set-from-places-6
+slice-set-from-places-6 : tie.Need-bounds-places-7
 slice-set-from-places-6 c = simp length-set (omega (arith, c.before.before.before.before.before.before.before.before.before.requires.0))
 
-cast-places-7 : tie.Need-overflow-cast-places-7
+cast-places-7 : tie.Need-overflow_cast-places-7
 cast-places-7 c = let p = small c.before.before.before.before.before.before.before.before.before.before in sfit (omega arith)
 
-slice-set-from-places-7 : tie.Need-slice-set-from-places-7
+slice-set-from-places-7 : tie.Need-bounds-places-8
 slice-set-from-places-7 c = simp length-set (omega (arith, c.before.before.before.before.before.before.before.before.before.before.requires.0))
 
-cast-places-8 : tie.Need-overflow-cast-places-8
+cast-places-8 : tie.Need-overflow_cast-places-8
 cast-places-8 c = let p = small c.before.before.before.before.before.before.before.before.before.before.before in sfit (omega arith)
 
-slice-set-from-places-8 : tie.Need-slice-set-from-places-8
+slice-set-from-places-8 : tie.Need-bounds-places-9
 slice-set-from-places-8 c = simp length-set (omega (arith, c.before.before.before.before.before.before.before.before.before.before.before.requires.0))
 
-same_length : tie.Need-same-length
+same_length : tie.Need-shape_of-places
 same_length c = simp length-set
 
 -- what ten stores leave, once the casts are read back
@@ -105,14 +105,14 @@ returns : tie.Need-returns
 returns c =
     let k = c.before.before.before.before.before.before.before in
     let s = k.before.before.before.before in
-    let told = k.before.struct-told2.given in
-    let known = c.struct-known8.given in
+    let told = k.before.struct_told-2-1.given in
+    let known = c.struct_known-8-1.given in
     stored s.args.f s.args.places.now (search told depth 40) (search told depth 40) (search known depth 40) (search known depth 40)
     (search known depth 40)
     (small s) s.requires.0
 
-pub write-first-spec : {M : Type 1} → statement M
-write-first-spec =
+pub write_first_spec : {M : Type 1} → statement M
+write_first_spec =
     tie.close
     (tie.spec
     cast-places

@@ -12,63 +12,63 @@ use Rattle.places.proofs.Pairs.{Put, put-none, put_next, put_all}
 use Rattle.places.proofs.states.write_line.Statement.{statement}
 use Rattle.places.proofs.states.write_line.Tie as tie
 
-abbrev invariant-loop : tie.invariant-loop
+abbrev invariant-loop : tie.invariant-loop-n
 invariant-loop numbers₀ line n₀ numbers n = Put (λ (x : Pair). x.i) (λ (x : Pair). x.q) 64 line numbers₀ n numbers
 
-abbrev decreases-loop : tie.decreases-loop
+abbrev decreases-loop : tie.decreases-loop-n
 decreases-loop numbers₀ line n₀ numbers n = 64 - n
 
-loop-holds : tie.Need-loop-init invariant-loop decreases-loop
+loop-holds : tie.Need-loop-n-init invariant-loop decreases-loop
 loop-holds c = put-none
 
-mul-x : tie.Need-overflow-mul-x invariant-loop decreases-loop
+mul-x : tie.Need-offset_bounds-line-n invariant-loop decreases-loop
 mul-x c = search rules
 
-array-copy-out-x : tie.Need-array-copy-out-x invariant-loop decreases-loop
+array-copy-out-x : tie.Need-bounds-line-n invariant-loop decreases-loop
 array-copy-out-x c = search rules
 
-mul-i : tie.Need-overflow-mul-i invariant-loop decreases-loop
+mul-i : tie.Need-overflow_mul-i invariant-loop decreases-loop
 mul-i c = search rules
 
-mul-i-2 : tie.Need-overflow-mul-i-2 invariant-loop decreases-loop
+mul-i-2 : tie.Need-offset_bounds-numbers-n invariant-loop decreases-loop
 mul-i-2 c = search rules
 
-slice-set-from-i : tie.Need-slice-set-from-i invariant-loop decreases-loop
+slice-set-from-i : tie.Need-bounds-numbers-n invariant-loop decreases-loop
 slice-set-from-i c = omega arith
 
-mul-q : tie.Need-overflow-mul-q invariant-loop decreases-loop
+mul-q : tie.Need-overflow_mul-q invariant-loop decreases-loop
 mul-q c = search rules
 
-add-q : tie.Need-overflow-add-q invariant-loop decreases-loop
+add-q : tie.Need-overflow_add-q invariant-loop decreases-loop
 add-q c = search rules
 
-mul-q-2 : tie.Need-overflow-mul-q-2 invariant-loop decreases-loop
+mul-q-2 : tie.Need-offset_bounds-numbers-n-in-loop-n invariant-loop decreases-loop
 mul-q-2 c = search rules
 
-slice-set-from-q : tie.Need-slice-set-from-q invariant-loop decreases-loop
+slice-set-from-q : tie.Need-bounds-numbers-n-in-loop-n invariant-loop decreases-loop
 slice-set-from-q c = simp length-set (omega arith)
 
-add-n : tie.Need-overflow-add-n invariant-loop decreases-loop
+add-n : tie.Need-overflow_add-n invariant-loop decreases-loop
 add-n c = search rules
 
-loop-less : tie.Need-loop-smaller invariant-loop decreases-loop
+loop-less : tie.Need-loop-n-smaller invariant-loop decreases-loop
 loop-less c = search rules
 
-loop-again : tie.Need-loop-preserved invariant-loop decreases-loop
+loop-again : tie.Need-loop-n-preserved invariant-loop decreases-loop
 loop-again c =
     let s = c.before.before.before.before.before in
     let l = c.before.before.before.before.loop in
     let x = get_or s.args.t1 l.n no_pair in
     simp (held w32 x.i (search rules), held w32 x.q (search rules)) (put_next no_pair l.invariant (omega arith) (search rules) s.requires)
 
-same_length : tie.Need-same-length invariant-loop decreases-loop
-same_length c = c.before.loop.invariant.long
+same_length : tie.Need-shape_of-numbers invariant-loop decreases-loop
+same_length c = c.before.loop-n.invariant.long
 
 returns : tie.Need-returns invariant-loop decreases-loop
-returns c = put_all c.before.loop.invariant (omega arith) (search rules) c.before.before.requires
+returns c = put_all c.before.loop-n.invariant (omega arith) (search rules) c.before.before.requires
 
-pub write-line-spec : {M : Type 1} → statement M
-write-line-spec =
+pub write_line_spec : {M : Type 1} → statement M
+write_line_spec =
     tie.close
     (tie.spec
     invariant-loop

@@ -12,63 +12,63 @@ use Rattle.places.proofs.Pairs.{Put, put-none, put_next, put_all}
 use Rattle.places.proofs.states.write_pending.Statement.{statement}
 use Rattle.places.proofs.states.write_pending.Tie as tie
 
-abbrev invariant-loop : tie.invariant-loop
+abbrev invariant-loop : tie.invariant-loop-n
 invariant-loop numbers₀ pending n₀ numbers n = Put (λ (x : Pending). x.e) (λ (x : Pending). x.err) 24 pending numbers₀ n numbers
 
-abbrev decreases-loop : tie.decreases-loop
+abbrev decreases-loop : tie.decreases-loop-n
 decreases-loop numbers₀ pending n₀ numbers n = 24 - n
 
-loop-holds : tie.Need-loop-init invariant-loop decreases-loop
+loop-holds : tie.Need-loop-n-init invariant-loop decreases-loop
 loop-holds c = put-none
 
-mul-x : tie.Need-overflow-mul-x invariant-loop decreases-loop
+mul-x : tie.Need-offset_bounds-pending-n invariant-loop decreases-loop
 mul-x c = search rules
 
-array-copy-out-x : tie.Need-array-copy-out-x invariant-loop decreases-loop
+array-copy-out-x : tie.Need-bounds-pending-n invariant-loop decreases-loop
 array-copy-out-x c = search rules
 
-mul-e : tie.Need-overflow-mul-e invariant-loop decreases-loop
+mul-e : tie.Need-overflow_mul-e invariant-loop decreases-loop
 mul-e c = search rules
 
-mul-e-2 : tie.Need-overflow-mul-e-2 invariant-loop decreases-loop
+mul-e-2 : tie.Need-offset_bounds-numbers-n invariant-loop decreases-loop
 mul-e-2 c = search rules
 
-slice-set-from-e : tie.Need-slice-set-from-e invariant-loop decreases-loop
+slice-set-from-e : tie.Need-bounds-numbers-n invariant-loop decreases-loop
 slice-set-from-e c = omega arith
 
-mul-err : tie.Need-overflow-mul-err invariant-loop decreases-loop
+mul-err : tie.Need-overflow_mul-err invariant-loop decreases-loop
 mul-err c = search rules
 
-add-err : tie.Need-overflow-add-err invariant-loop decreases-loop
+add-err : tie.Need-overflow_add-err invariant-loop decreases-loop
 add-err c = search rules
 
-mul-err-2 : tie.Need-overflow-mul-err-2 invariant-loop decreases-loop
+mul-err-2 : tie.Need-offset_bounds-numbers-n-in-loop-n invariant-loop decreases-loop
 mul-err-2 c = search rules
 
-slice-set-from-err : tie.Need-slice-set-from-err invariant-loop decreases-loop
+slice-set-from-err : tie.Need-bounds-numbers-n-in-loop-n invariant-loop decreases-loop
 slice-set-from-err c = simp length-set (omega arith)
 
-add-n : tie.Need-overflow-add-n invariant-loop decreases-loop
+add-n : tie.Need-overflow_add-n invariant-loop decreases-loop
 add-n c = search rules
 
-loop-less : tie.Need-loop-smaller invariant-loop decreases-loop
+loop-less : tie.Need-loop-n-smaller invariant-loop decreases-loop
 loop-less c = search rules
 
-loop-again : tie.Need-loop-preserved invariant-loop decreases-loop
+loop-again : tie.Need-loop-n-preserved invariant-loop decreases-loop
 loop-again c =
     let s = c.before.before.before.before.before in
     let l = c.before.before.before.before.loop in
     let x = get_or s.args.t1 l.n no_pending in
     simp (held w32 x.e (search rules), held w32 x.err (search rules)) (put_next no_pending l.invariant (omega arith) (search rules) s.requires)
 
-same_length : tie.Need-same-length invariant-loop decreases-loop
-same_length c = c.before.loop.invariant.long
+same_length : tie.Need-shape_of-numbers invariant-loop decreases-loop
+same_length c = c.before.loop-n.invariant.long
 
 returns : tie.Need-returns invariant-loop decreases-loop
-returns c = put_all c.before.loop.invariant (omega arith) (search rules) c.before.before.requires
+returns c = put_all c.before.loop-n.invariant (omega arith) (search rules) c.before.before.requires
 
-pub write-pending-spec : {M : Type 1} → statement M
-write-pending-spec =
+pub write_pending_spec : {M : Type 1} → statement M
+write_pending_spec =
     tie.close
     (tie.spec
     invariant-loop

@@ -27,56 +27,56 @@ stays : (f : Frontend) (l : Slices) → (are_long l && has_places f) ≡ false �
 unfolding state_written
 stays f l e = rw e refl
 
-returns : tie.Need-returns
+returns : tie.Need-returns-then-places-ne28
 returns c =
     let l = given c.before in
-    stays c.before.args.f l (rw (ne_eqb (length l.places) 28 c.if1.true) refl)
+    stays c.before.args.f l (rw (ne_eqb (length l.places) 28 c.if-places-ne28.true) refl)
 
-returns-2 : tie.Need-returns-2
+returns-2 : tie.Need-returns-then-line-ne128
 returns-2 c =
     let s = c.before.before in
     let l = given s in
-    stays s.args.f l (rw (eq-eqb (length l.places) 28 c.before.if1.false, ne_eqb (length l.line) 128 c.if2.true) refl)
+    stays s.args.f l (rw (eq-eqb (length l.places) 28 c.before.if-places-ne28.false, ne_eqb (length l.line) 128 c.if-line-ne128.true) refl)
 
-returns-3 : tie.Need-returns-3
+returns-3 : tie.Need-returns-then-errors-ne48
 returns-3 c =
     let s = c.before.before.before in
     let l = given s in
     stays s.args.f l
     (rw (
-      eq-eqb (length l.places) 28 c.before.before.if1.false,
-      eq-eqb (length l.line) 128 c.before.if2.false,
-      ne_eqb (length l.errors) 48 c.if3.true,
+      eq-eqb (length l.places) 28 c.before.before.if-places-ne28.false,
+      eq-eqb (length l.line) 128 c.before.if-line-ne128.false,
+      ne_eqb (length l.errors) 48 c.if-errors-ne48.true,
     ) refl)
 
-are-counts-requires : tie.Need-are-counts-requires
+are-counts-requires : tie.Need-are_counts-requires
 are-counts-requires c κs = search rules
 
 -- slices as long as a state
-abbrev start : tie.Else3 → tie.Start
+abbrev start : tie.Else-errors-ne48 → tie.Start
 start c = c.before.before.before
 
-long : (c : tie.Else3) → are_long (given (start c)) ≡ true
+long : (c : tie.Else-errors-ne48) → are_long (given (start c)) ≡ true
 long c =
     let l = given (start c) in
     rw (
-      eq-eqb (length l.places) 28 c.before.before.if1.false,
-      eq-eqb (length l.line) 128 c.before.if2.false,
-      eq-eqb (length l.errors) 48 c.if3.false,
+      eq-eqb (length l.places) 28 c.before.before.if-places-ne28.false,
+      eq-eqb (length l.line) 128 c.before.if-line-ne128.false,
+      eq-eqb (length l.errors) 48 c.if-errors-ne48.false,
     ) refl
 
-returns-4 : tie.Need-returns-4
+returns-4 : tie.Need-returns-then-not-are_counts
 returns-4 c =
     let tested = c.before in
     let e = tested.before.before in
-    let large : has_places (start e).args.f ≡ false = sym tested.are-counts.ensures ∙ not-true tested.are-counts.result c.if4.true in
+    let large : has_places (start e).args.f ≡ false = sym tested.are_counts.ensures ∙ not-true tested.are_counts.result c.if-not-are_counts.true in
     stays (start e).args.f (given (start e)) (rw (long e, large) refl)
 
 -- ---- what is written
 
 -- every count has its place
-small : (c : tie.Else4) → has_places (start c.before.before.before).args.f ≡ true
-small c = sym c.before.are-counts.ensures ∙ not-false c.before.are-counts.result c.if4.false
+small : (c : tie.Else-not-are_counts) → has_places (start c.before.before.before).args.f ≡ true
+small c = sym c.before.are_counts.ensures ∙ not-false c.before.are_counts.result c.if-not-are_counts.false
 
 -- the held sheet behind the first ten: there are 28 places, so nothing stands behind it
 parts : (f : Frontend) (l₀ l₁ ys : List ℤ) → length l₁ ≡ 28 → l₁ ≡ first_numbers f ++ drop 10 l₀
@@ -90,34 +90,34 @@ parts f l₀ l₁ ys long a b =
     (λ i. front i ++ (b i ++ post i)) ∙ ap (λ (x : List ℤ). first_numbers f ++ x) (append-nil (sheet_numbers f.params ++ drop 18 (mid_of 10 k l₁))
     ∙ ap (λ (x : List ℤ). sheet_numbers f.params ++ x) mid ∙ append-nil (sheet_numbers f.params))
 
-write-first-requires : tie.Need-write-first-requires
-write-first-requires c κs = let e = c.before.before.before.before in (omega (arith, e.before.before.before.before.before.if1.false), small e)
+write-first-requires : tie.Need-write_first-requires
+write-first-requires c κs = let e = c.before.before.before.before in (omega (arith, e.before.before.before.before.before.if-places-ne28.false), small e)
 
-sub-write : tie.Need-overflow-sub-write
+sub-write : tie.Need-slice_bounds-write-count
 sub-write c = search rules
 
-part-write-start : tie.Need-slice-bounds-write-start
+part-write-start : tie.Need-slice_bounds-write-start
 part-write-start c = search rules
 
-part-write-end : tie.Need-slice-bounds-write-end
+part-write-end : tie.Need-slice_bounds-write-end
 part-write-end c = search rules
 
 write-requires : tie.Need-write-requires
 write-requires c κs = search rules
 
-write-line-requires : tie.Need-write-line-requires
+write-line-requires : tie.Need-write_line-requires
 write-line-requires c κs = search rules
 
-write-pending-requires : tie.Need-write-pending-requires
+write-pending-requires : tie.Need-write_pending-requires
 write-pending-requires c κs = search rules
 
-same_length : tie.Need-same-length
+same_length : tie.Need-shape_of-places
 same_length c = search rules
 
-same-length-2 : tie.Need-same-length-2
+same-length-2 : tie.Need-shape_of-line
 same-length-2 c = search rules
 
-same-length-3 : tie.Need-same-length-3
+same-length-3 : tie.Need-shape_of-errors
 same-length-3 c = search rules
 
 writes : (f : Frontend) (l : Slices) {new : Slices} → (are_long l && has_places f) ≡ true → new ≡ numbers_of f
@@ -125,7 +125,7 @@ writes : (f : Frontend) (l : Slices) {new : Slices} → (are_long l && has_place
 unfolding state_written
 writes f l e new = rw e (λ i. record { number = 0; state = new i })
 
-returns-5 : tie.Need-returns-5
+returns-5 : tie.Need-returns
 unfolding numbers_of
 returns-5 c =
     let errors = c.before in
@@ -135,13 +135,13 @@ returns-5 c =
     let e = first.before.before.before.before.before in
     let s = start e.before.before.before in
     let a = s.args in
-    let places = parts a.f a.places.now first.write-first.new.1.0 sheet.write.new.1.0
-    (first.write-first.auto.1.0 ∙ e.before.before.before.before.before.if1.false) first.write-first.ensures sheet.write.ensures in
+    let places = parts a.f a.places-1.now first.write_first.new.1.0 sheet.write.new.1.0
+    (first.write_first.auto.1.0 ∙ e.before.before.before.before.before.if-places-ne28.false) first.write_first.ensures sheet.write.ensures in
     writes a.f (given s) (rw (long e.before.before.before, small e) refl)
-    (λ i. slices (places i) (line.write-line.ensures i) (errors.write-pending.ensures i))
+    (λ i. slices (places i) (line.write_line.ensures i) (errors.write_pending.ensures i))
 
-pub write-state-spec : {M : Type 1} → statement M
-write-state-spec =
+pub write_state_spec : {M : Type 1} → statement M
+write_state_spec =
     tie.close
     (tie.spec
     returns

@@ -4,17 +4,17 @@ use Rattle.recording.specs.Lines.{next_at_end}
 use Rattle.recording.proofs.lines.end.Statement.{statement}
 use Rattle.recording.proofs.lines.end.Tie as tie
 
-returns : tie.Need-returns
+returns : tie.Need-returns-then-unread-gt0
 unfolding next_at_end
-returns c = simp (lt-ltb _ _ c.if1.true)
+returns c = simp (lt-ltb _ _ c.if-unread-gt0.true)
 
-returns-2 : tie.Need-returns-2
+returns-2 : tie.Need-returns-then-line-le-NEEDED
 unfolding next_at_end
-returns-2 c = simp (le-ltb _ _ c.before.if1.false, le-leb _ _ c.if2.true)
+returns-2 c = simp (le-ltb _ _ c.before.if-unread-gt0.false, le-leb _ _ c.if-line-le-NEEDED.true)
 
-returns-3 : tie.Need-returns-3
+returns-3 : tie.Need-returns
 unfolding next_at_end
-returns-3 c = simp (le-ltb _ _ c.before.if1.false, lt-leb _ _ c.if2.false)
+returns-3 c = simp (le-ltb _ _ c.before.if-unread-gt0.false, lt-leb _ _ c.if-line-le-NEEDED.false)
 
-pub end-spec : {M : Type 1} → statement M
-end-spec = tie.close (tie.spec returns returns-2 returns-3)
+pub end_spec : {M : Type 1} → statement M
+end_spec = tie.close (tie.spec returns returns-2 returns-3)

@@ -5,43 +5,43 @@ use borrow.Author.Rules.{rules}
 use Rattle.recording.proofs.lines.next_line.Statement.{statement}
 use Rattle.recording.proofs.lines.next_line.Tie as tie
 
-line-end-requires : tie.Need-line-end-requires
+line-end-requires : tie.Need-line_end-requires
 line-end-requires c κs = search rules
 
-enum-known-n : tie.Need-enum-known-n
+enum-known-n : tie.Need-enum_known-n
 enum-known-n c = search rules
 
-enum_told : tie.Need-enum-told
+enum_told : tie.Need-enum_told-1
 enum_told c = search rules
 
-enum-told-2 : tie.Need-enum-told-2
+enum-told-2 : tie.Need-enum_told-in-Open
 enum-told-2 c = search rules
 
 end-requires : tie.Need-end-requires
 end-requires c κs = search rules
 
-returns : tie.Need-returns
+returns : tie.Need-returns-then-over
 unfolding next_of
 returns c =
     let arm = c.before.before in
-    simp (sym arm.before.before.line-end.ensures ∙ arm.enum-told2.given.1, c.before.if1.true) c.end.ensures
+    simp (sym arm.before.before.line_end.ensures ∙ arm.enum_told-in-Open-1.given.1, c.before.if-over.true) c.end.ensures
 
-returns-2 : tie.Need-returns-2
+returns-2 : tie.Need-returns-in-After
 unfolding next_of
-returns-2 c = simp (sym c.before.before.before.line-end.ensures ∙ c.before.n.given.1)
+returns-2 c = simp (sym c.before.before.before.line_end.ensures ∙ c.before.n-1.given.1)
 
-returns-3 : tie.Need-returns-3
+returns-3 : tie.Need-returns-in-TooLong
 unfolding next_of
-returns-3 c = simp (sym c.before.before.line-end.ensures ∙ c.enum_told.given.1)
+returns-3 c = simp (sym c.before.before.line_end.ensures ∙ c.enum_told-1.given.1)
 
-returns-4 : tie.Need-returns-4
+returns-4 : tie.Need-returns-else-over
 unfolding next_of
 returns-4 c =
     let arm = c.before in
-    simp (sym arm.before.before.line-end.ensures ∙ arm.enum-told2.given.1, c.if1.false)
+    simp (sym arm.before.before.line_end.ensures ∙ arm.enum_told-in-Open-1.given.1, c.if-over.false)
 
-pub next-line-spec : {M : Type 1} → statement M
-next-line-spec =
+pub next_line_spec : {M : Type 1} → statement M
+next_line_spec =
     tie.close
     (tie.spec
     line-end-requires

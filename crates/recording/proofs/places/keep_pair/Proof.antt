@@ -12,37 +12,37 @@ use Rattle.recording.specs.Places.{pair_at}
 use Rattle.recording.proofs.places.keep_pair.Statement.{statement}
 use Rattle.recording.proofs.places.keep_pair.Tie as tie
 
-narrow-i16-requires : tie.Need-narrow-i16-requires
+narrow-i16-requires : tie.Need-narrow_i16-first-requires
 narrow-i16-requires c κs = search rules
 
-narrow-i16-requires-2 : tie.Need-narrow-i16-requires-2
+narrow-i16-requires-2 : tie.Need-narrow_i16-second-requires
 narrow-i16-requires-2 c κs = search rules
 
-mul-first : tie.Need-overflow-mul-first
+mul-first : tie.Need-overflow_mul-first
 mul-first c = search rules
 
-mul-first-2 : tie.Need-overflow-mul-first-2
+mul-first-2 : tie.Need-offset_bounds-values-n
 mul-first-2 c = search rules
 
-slice-set-from-first : tie.Need-slice-set-from-first
+slice-set-from-first : tie.Need-bounds-values-n
 slice-set-from-first c = search rules
 
-mul-second : tie.Need-overflow-mul-second
+mul-second : tie.Need-overflow_mul-second
 mul-second c = search rules
 
-add-second : tie.Need-overflow-add-second
+add-second : tie.Need-overflow_add-second
 add-second c = search rules
 
-mul-second-2 : tie.Need-overflow-mul-second-2
+mul-second-2 : tie.Need-offset_bounds-values-n-then-n-values
 mul-second-2 c = search rules
 
-slice-set-from-second : tie.Need-slice-set-from-second
+slice-set-from-second : tie.Need-bounds-values-n-then-n-values
 slice-set-from-second c = simp length-set (omega arith)
 
-same_length : tie.Need-same-length
+same_length : tie.Need-shape_of-values
 same_length c = search rules
 
-returns : tie.Need-returns
+returns : tie.Need-returns-then-n-values
 unfolding pair_at
 returns c =
     let s = c.before.before.before in
@@ -50,14 +50,14 @@ returns c =
     let second = c.narrow-i162 in
     let i : first.result ≡ narrow_i16 s.args.i = simp (to_z-of_z s.ranges.i) at first.ensures in
     let q : second.result ≡ narrow_i16 s.args.q = simp (to_z-of_z s.ranges.q) at second.ensures in
-    simp (held w16 first.result first.type-inv ∙ i, held w16 second.result second.type-inv ∙ q, lt-ltb _ _ c.before.before.if1.true)
+    simp (held w16 first.result first.type-inv ∙ i, held w16 second.result second.type-inv ∙ q, lt-ltb _ _ c.before.before.if-n-values.true)
 
-returns-2 : tie.Need-returns-2
+returns-2 : tie.Need-returns-else-n-values
 unfolding pair_at
-returns-2 c = simp (le-ltb _ _ c.if1.false)
+returns-2 c = simp (le-ltb _ _ c.if-n-values.false)
 
-pub keep-pair-spec : {M : Type 1} → statement M
-keep-pair-spec =
+pub keep_pair_spec : {M : Type 1} → statement M
+keep_pair_spec =
     tie.close
     (tie.spec
     narrow-i16-requires

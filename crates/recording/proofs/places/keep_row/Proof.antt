@@ -15,86 +15,86 @@ use Rattle.recording.proofs.Rows.{sets-least, sets-next, sets_last}
 use Rattle.recording.proofs.places.keep_row.Statement.{statement}
 use Rattle.recording.proofs.places.keep_row.Tie as tie
 
-abbrev invariant-loop : tie.invariant-loop
+abbrev invariant-loop : tie.invariant-loop-i
 invariant-loop row bank₀ from start n i₀ bank i =
     (length bank ≡ length bank₀) × (i ≤ n) × (sets bank₀ from (map narrow_i32 row) ≡ sets bank (start + i) (map narrow_i32 (drop i row)))
 
-abbrev decreases-loop : tie.decreases-loop
+abbrev decreases-loop : tie.decreases-loop-i
 decreases-loop row bank₀ from start n i₀ bank i = n - i
 
-least-requires : tie.Need-least-requires invariant-loop decreases-loop
+least-requires : tie.Need-least-start-requires invariant-loop decreases-loop
 least-requires c κs = search rules
 
-sub-least : tie.Need-overflow-sub-least invariant-loop decreases-loop
+sub-least : tie.Need-overflow_sub-bank invariant-loop decreases-loop
 sub-least c = search rules
 
-least-requires-2 : tie.Need-least-requires-2 invariant-loop decreases-loop
+least-requires-2 : tie.Need-least-n-requires invariant-loop decreases-loop
 least-requires-2 c κs = search rules
 
-loop-holds : tie.Need-loop-init invariant-loop decreases-loop
+loop-holds : tie.Need-loop-i-init invariant-loop decreases-loop
 loop-holds c =
     let a = c.before.before.args in
     let row = map narrow_i32 a.row.now in
-    let start : min a.from (length a.bank.now) ≡ c.before.least.result + 0 = omega arith in
+    let start : min a.from (length a.bank.now) ≡ c.before.least-start.result + 0 = omega arith in
     (refl, omega arith, sets-least a.bank.now a.from row ∙ ap (λ (k : ℕ). sets a.bank.now k row) start)
 
-mul-narrow-i32 : tie.Need-overflow-mul-narrow-i32 invariant-loop decreases-loop
+mul-narrow-i32 : tie.Need-offset_bounds-row-i invariant-loop decreases-loop
 mul-narrow-i32 c = search rules
 
-shared-slice-copy-out-narrow-i32 : tie.Need-shared-slice-copy-out-narrow-i32 invariant-loop decreases-loop
+shared-slice-copy-out-narrow-i32 : tie.Need-bounds-row-i invariant-loop decreases-loop
 shared-slice-copy-out-narrow-i32 c = search rules
 
-narrow-i32-requires : tie.Need-narrow-i32-requires invariant-loop decreases-loop
+narrow-i32-requires : tie.Need-narrow_i32-c-requires invariant-loop decreases-loop
 narrow-i32-requires c κs = search rules
 
-add-c : tie.Need-overflow-add-c invariant-loop decreases-loop
+add-c : tie.Need-overflow_add-c invariant-loop decreases-loop
 add-c c = search rules
 
-mul-c : tie.Need-overflow-mul-c invariant-loop decreases-loop
+mul-c : tie.Need-offset_bounds-bank-start invariant-loop decreases-loop
 mul-c c = search rules
 
-slice-set-from-c : tie.Need-slice-set-from-c invariant-loop decreases-loop
+slice-set-from-c : tie.Need-bounds-bank-start invariant-loop decreases-loop
 slice-set-from-c c = search rules
 
-add-i : tie.Need-overflow-add-i invariant-loop decreases-loop
+add-i : tie.Need-overflow_add-i invariant-loop decreases-loop
 add-i c = search rules
 
-loop-less : tie.Need-loop-smaller invariant-loop decreases-loop
+loop-less : tie.Need-loop-i-smaller invariant-loop decreases-loop
 loop-less c = search rules
 
-loop-again : tie.Need-loop-preserved invariant-loop decreases-loop
+loop-again : tie.Need-loop-i-preserved invariant-loop decreases-loop
 loop-again c =
     let l = c.before.before.before in
     let a = l.before.before.before.args in
-    let start = l.before.before.least.result in
-    let z = get_or a.row.now l.loop.i (pos 0) in
-    let one : c.narrow-i32.result ≡ narrow_i32 z = simp (held w64 z c.before.narrow-i32-arg.given) at c.narrow-i32.ensures in
-    let v = held w32 c.narrow-i32.result c.narrow-i32.type-inv ∙ one in
-    let next = sets-next narrow_i32 a.row.now l.loop.i (pos 0) l.loop.bank start (omega arith) in
-    let left = map narrow_i32 (drop (l.loop.i + 1) a.row.now) in (
+    let start = l.before.before.least-start.result in
+    let z = get_or a.row.now l.loop-i.i (pos 0) in
+    let one : c.narrow_i32-c.result ≡ narrow_i32 z = simp (held w64 z c.before.narrow_i32-arg-1.given) at c.narrow_i32-c.ensures in
+    let v = held w32 c.narrow_i32-c.result c.narrow_i32-c.type-inv ∙ one in
+    let next = sets-next narrow_i32 a.row.now l.loop-i.i (pos 0) l.loop-i.bank start (omega arith) in
+    let left = map narrow_i32 (drop (l.loop-i.i + 1) a.row.now) in (
       simp length-set (omega arith),
       omega arith,
-      l.loop.invariant.2 ∙ next ∙ ap (λ (x : ℤ). sets (set l.loop.bank (start + l.loop.i) x) (start + (l.loop.i + 1)) left) (sym v),
+      l.loop-i.invariant.2 ∙ next ∙ ap (λ (x : ℤ). sets (set l.loop-i.bank (start + l.loop-i.i) x) (start + (l.loop-i.i + 1)) left) (sym v),
     )
 
-add-result : tie.Need-overflow-add-result invariant-loop decreases-loop
+add-result : tie.Need-overflow_add-result invariant-loop decreases-loop
 add-result c = search rules
 
-same_length : tie.Need-same-length invariant-loop decreases-loop
+same_length : tie.Need-shape_of-bank invariant-loop decreases-loop
 same_length c = search rules
 
 returns : tie.Need-returns invariant-loop decreases-loop
 returns c =
     let l = c.before in
     let a = l.before.before.before.args in
-    let start = l.before.before.least.result in
+    let start = l.before.before.least-start.result in
     let room = length a.bank.now - start in (
       omega arith,
-      sym (l.loop.invariant.2 ∙ sets_last narrow_i32 a.row.now l.loop.i l.loop.bank start room (omega arith) (omega arith)),
+      sym (l.loop-i.invariant.2 ∙ sets_last narrow_i32 a.row.now l.loop-i.i l.loop-i.bank start room (omega arith) (omega arith)),
     )
 
-pub keep-row-spec : {M : Type 1} → statement M
-keep-row-spec =
+pub keep_row_spec : {M : Type 1} → statement M
+keep_row_spec =
     tie.close
     (tie.spec
     invariant-loop

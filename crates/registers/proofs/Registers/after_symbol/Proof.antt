@@ -66,39 +66,39 @@ found-count p r false w = refl
 
 -- ---- the calls
 
-can-make-symbol-requires : tie.Need-can-make-symbol-requires
+can-make-symbol-requires : tie.Need-can_make_symbol-requires
 can-make-symbol-requires c κs = search rules
 
-returns : tie.Need-returns
+returns : tie.Need-returns-then-not-can_make_symbol
 unfolding after_symbol
-returns c = rw (sym c.before.can-make-symbol.ensures ∙ not-true c.before.can-make-symbol.result c.if1.true) refl
+returns c = rw (sym c.before.can_make_symbol.ensures ∙ not-true c.before.can_make_symbol.result c.if-not-can_make_symbol.true) refl
 
 -- where a symbol can be made
-can-make : (c : tie.Else1) → let a = c.before.before.args in can_make_symbol a.p a.self ≡ true
-can-make c = sym c.before.can-make-symbol.ensures ∙ not-false c.before.can-make-symbol.result c.if1.false
+can-make : (c : tie.Else-not-can_make_symbol) → let a = c.before.before.args in can_make_symbol a.p a.self ≡ true
+can-make c = sym c.before.can_make_symbol.ensures ∙ not-false c.before.can_make_symbol.result c.if-not-can_make_symbol.false
 
-told : (c : tie.Else1) → let a = c.before.before.args in CanMake a.p a.self
+told : (c : tie.Else-not-can_make_symbol) → let a = c.before.before.args in CanMake a.p a.self
 told c = let a = c.before.before.args in tells a.p a.self (can-make c)
 
 most : (s : tie.Start) → SFits w32 s.args.p.integrator_max
 most s = record { sfits = search s.well-formed.1.0 depth 40 }
 
-found-requires : tie.Need-found-requires
+found-requires : tie.Need-found-d-requires
 found-requires c κs = omega (arith, (told c).within, end-abs (most c.before.before))
 
 left-requires : tie.Need-left-requires
 left-requires c κs =
     let a = c.before.before.before.args in
-    let t = ap (λ (x : Registers). x.t_acc) c.found.ensures ∙ found-time a.p a.self a.due a.w in
-    let n = ap (λ (x : Registers). x.symbols) c.found.ensures ∙ found-count a.p a.self a.due a.w in
+    let t = ap (λ (x : Registers). x.t_acc) c.found-d.ensures ∙ found-time a.p a.self a.due a.w in
+    let n = ap (λ (x : Registers). x.symbols) c.found-d.ensures ∙ found-count a.p a.self a.due a.w in
     (rw t (omega (arith, (told c.before).soon)), rw n (told c.before).room)
 
-returns-2 : tie.Need-returns-2
+returns-2 : tie.Need-returns
 unfolding after_symbol
 returns-2 c =
     let f = c.before in
-    rw (can-make f.before) (λ i. record { registers = (c.left.ensures ∙ ap left f.found.ensures) i; made = true })
+    rw (can-make f.before) (λ i. record { registers = (c.left.ensures ∙ ap left f.found-d.ensures) i; made = true })
 
-pub after-symbol-spec : {M : Type 1} → statement M
-after-symbol-spec =
+pub after_symbol_spec : {M : Type 1} → statement M
+after_symbol_spec =
     tie.close (tie.spec can-make-symbol-requires returns found-requires left-requires returns-2)

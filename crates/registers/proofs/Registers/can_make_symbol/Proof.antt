@@ -19,16 +19,16 @@ use Rattle.registers.proofs.Registers.can_make_symbol.Tie as tie
 
 -- ---- the integrator's ends
 
-most : (c : tie.After-struct-told) → SFits w32 c.before.before.args.p.integrator_max
-most c = record { sfits = search c.struct_told.given depth 40 }
+most : (c : tie.After-struct_told-1) → SFits w32 c.before.before.args.p.integrator_max
+most c = record { sfits = search c.struct_told-1.given depth 40 }
 
-cast-end : tie.Need-overflow-cast-end
+cast-end : tie.Need-overflow_cast-end
 cast-end c = widens w64 tt (most c)
 
-mul-end : tie.Need-overflow-mul-end
+mul-end : tie.Need-overflow_mul-end
 mul-end c = simp (widened w64 tt (most c)) (end_fits (most c))
 
-sub-if3 : tie.Need-overflow-sub-if3
+sub-if3 : tie.Need-overflow_sub-end
 sub-if3 c = let m = most c.before.before.before.before in simp (end_is m, +ℤ_idl) (low_fits m)
 
 -- ---- the tests so far, and the next
@@ -42,40 +42,40 @@ module _ (s : tie.Start) where
   first4 = first2 && within (neg_ℤ (integrator_end s.args.p)) (integrator_end s.args.p) s.args.self.v
 
 -- where the function began, from its second test
-abbrev start : tie.Joined1 → tie.Start
+abbrev start : tie.Joined-self-ge0 → tie.Start
 start c = c.before.before.before.before.before
 
-passed2 : (c : tie.Joined1) → c.if1.if2 ≡ first2 (start c)
+passed2 : (c : tie.Joined-self-ge0) → c.if-self-ge0.if2 ≡ first2 (start c)
 passed2 c =
     let z = (start c).args.self.t_acc in
-    and-next {so_far = le_z (pos 0) (in64 z)} (ap (le_z (pos 0)) (held w64 z c.before.struct-told2.given.1.0.1)) c.if1.branch
+    and-next {so_far = le_z (pos 0) (in64 z)} (ap (le_z (pos 0)) (held w64 z c.before.struct_told-2-1.given.1.0.1)) c.if-self-ge0.branch
     (λ t. (t.0.taken, t.3 ∙ ap (λ (x : ℤ). lt_z x one) (held w64 z t.2.given.1.0.1))) (λ n. (n.0.left, n.1))
 
-passed4 : (c : tie.Joined3) → c.if3.if4 ≡ first4 (start c.before.before)
+passed4 : (c : tie.Joined-end-self) → c.if-end-self.if4 ≡ first4 (start c.before.before)
 passed4 c =
     let s = start c.before.before in
     let v = s.args.self.v in
     let m = most c.before.before.before.before.before in
     let high = integrator_end s.args.p in
     and-next
-    (and-next (passed2 c.before.before) c.before.if2.branch (λ t. (t.0.taken, t.3 ∙ low-test m v t.2.given.1.1.0.1))
+    (and-next (passed2 c.before.before) c.before.if-self-lt16777216.branch (λ t. (t.0.taken, t.3 ∙ low-test m v t.2.given.1.1.0.1))
     (λ n. (n.0.left, n.1)))
-    c.if3.branch (λ t. (t.0.taken, t.3 ∙ high-test m v t.2.given.1.1.0.1)) (λ n. (n.0.left, n.1))
+    c.if-end-self.branch (λ t. (t.0.taken, t.3 ∙ high-test m v t.2.given.1.1.0.1)) (λ n. (n.0.left, n.1))
     ∙ and_assoc (first2 s) (le_z (neg_ℤ high) v) (le_z v high)
 
 -- ---- what is returned
 
 -- all tests but the last, by what they came to
-but_last : (c : tie.Joined3) (b : Bool) → c.if3.if4 ≡ b
+but_last : (c : tie.Joined-end-self) (b : Bool) → c.if-end-self.if4 ≡ b
     → let a = (start c.before.before).args in (b && ltb a.self.symbols 18446744073709551615) ≡ can_make_symbol a.p a.self
 unfolding can_make_symbol
 but_last c b e = with-next (ltb (start c.before.before).args.self.symbols 18446744073709551615) (sym e ∙ passed4 c)
 
-returns : tie.Need-returns
-returns c = but_last c.before.before true c.before.if4.true
+returns : tie.Need-returns-then-self-end
+returns c = but_last c.before.before true c.before.if-self-end.true
 
-returns-2 : tie.Need-returns-2
-returns-2 c = c.if4.false ∙ but_last c.before false c.if4.false
+returns-2 : tie.Need-returns-else-self-end
+returns-2 c = c.if-self-end.false ∙ but_last c.before false c.if-self-end.false
 
-pub can-make-symbol-spec : {M : Type 1} → statement M
-can-make-symbol-spec = tie.close (tie.spec cast-end mul-end sub-if3 returns returns-2)
+pub can_make_symbol_spec : {M : Type 1} → statement M
+can_make_symbol_spec = tie.close (tie.spec cast-end mul-end sub-if3 returns returns-2)

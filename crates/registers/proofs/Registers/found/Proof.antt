@@ -11,17 +11,17 @@ use Rattle.registers.proofs.Registers.found.Tie as tie
 correct-requires : tie.Need-correct-requires
 correct-requires c κs = search rules
 
-returns : tie.Need-returns
+returns : tie.Need-returns-then-due
 unfolding found
 returns c =
     let w = c.before.before.before.before.args.w in
-    let e = held w32 w.e (search c.before.before.struct_told.given depth 40) in
-    let err = held w32 w.err (search c.before.struct-told2.given depth 40) in
-    rw c.before.before.before.if1.true (simp (e, err) at c.correct.ensures)
+    let e = held w32 w.e (search c.before.before.struct_told-1.given depth 40) in
+    let err = held w32 w.err (search c.before.struct_told-then-due-1.given depth 40) in
+    rw c.before.before.before.if-due.true (simp (e, err) at c.correct.ensures)
 
-returns-2 : tie.Need-returns-2
+returns-2 : tie.Need-returns
 unfolding found
-returns-2 c = rw c.if1.false refl
+returns-2 c = rw c.if-due.false refl
 
-pub found-spec : {M : Type 1} → statement M
-found-spec = tie.close (tie.spec correct-requires returns returns-2)
+pub found_spec : {M : Type 1} → statement M
+found_spec = tie.close (tie.spec correct-requires returns returns-2)

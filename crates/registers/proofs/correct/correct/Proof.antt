@@ -26,24 +26,24 @@ next-v-abs p v e f = clamp-abs _ (neg_ℤ (integrator_end p)) (integrator_end p)
 max-fits : (s : tie.Start) → SFits w32 s.args.p.integrator_max
 max-fits s = record { sfits = search s.well-formed.0.1.1 depth 40 }
 
-next-v-requires : tie.Need-next-v-requires
+next-v-requires : tie.Need-next_v-v-requires
 next-v-requires c κs = search rules
 
 -- what `next_v` answers
-moved : (c : tie.After-next-v) → let a = c.before.before.args in in64 c.next-v.result ≡ next_v a.p a.r.v a.e
+moved : (c : tie.After-next_v-v) → let a = c.before.before.args in in64 c.next_v-v.result ≡ next_v a.p a.r.v a.e
 moved c =
     let s = c.before.before in
-    let told : c.next-v.result ≡ _ =
-    simp (held w64 s.args.r.v (search c.before.struct_told.given depth 40), to_z-of_z s.ranges.e) at c.next-v.ensures in
-    held w64 c.next-v.result c.next-v.type-inv ∙ told
+    let told : c.next_v-v.result ≡ _ =
+    simp (held w64 s.args.r.v (search c.before.struct_told-1.given depth 40), to_z-of_z s.ranges.e) at c.next_v-v.ensures in
+    held w64 c.next_v-v.result c.next_v-v.type-inv ∙ told
 
-next-period-requires : tie.Need-next-period-requires
+next-period-requires : tie.Need-next_period-requires
 next-period-requires c κs =
     let s = c.before.before in
     let a = s.args in
     rw (moved c) (omega (arith, next-v-abs a.p a.r.v a.e (max-fits s)))
 
-next-gain-requires : tie.Need-next-gain-requires
+next-gain-requires : tie.Need-next_gain-requires
 next-gain-requires c κs = search rules
 
 returns : tie.Need-returns
@@ -53,10 +53,10 @@ returns c =
     let d = g.before in
     let v = d.before in
     let s = v.before.before in
-    let t = held w64 s.args.r.t_acc (search c.struct-told2.given depth 40) in
-    let period : d.next-period.result ≡ _ = simp (moved v, to_z-of_z s.ranges.e) at d.next-period.ensures in
-    let gain : g.next-gain.result ≡ _ = simp (to_z-of_z s.ranges.err) at g.next-gain.ensures in
+    let t = held w64 s.args.r.t_acc (search c.struct_told-2-1.given depth 40) in
+    let period : d.next_period.result ≡ _ = simp (moved v, to_z-of_z s.ranges.e) at d.next_period.ensures in
+    let gain : g.next_gain.result ≡ _ = simp (to_z-of_z s.ranges.err) at g.next_gain.ensures in
     simp (t, moved v, period, gain)
 
-pub correct-spec : {M : Type 1} → statement M
-correct-spec = tie.close (tie.spec next-v-requires next-period-requires next-gain-requires returns)
+pub correct_spec : {M : Type 1} → statement M
+correct_spec = tie.close (tie.spec next-v-requires next-period-requires next-gain-requires returns)

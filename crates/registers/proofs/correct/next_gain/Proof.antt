@@ -16,33 +16,33 @@ use Rattle.arith.proofs.Widths.{in64, clamp-unsigned}
 use Rattle.registers.proofs.correct.next_gain.Statement.{statement}
 use Rattle.registers.proofs.correct.next_gain.Tie as tie
 
-cast-clamp : tie.Need-overflow-cast-clamp
+cast-clamp : tie.Need-overflow_cast-acc
 cast-clamp c = search rules
 
-cast-shift-right : tie.Need-overflow-cast-shift-right
+cast-shift-right : tie.Need-overflow_cast-err
 cast-shift-right c = widens w64 tt c.ranges.err
 
-cast-shift-right-2 : tie.Need-overflow-cast-shift-right-2
+cast-shift-right-2 : tie.Need-overflow_cast-p
 cast-shift-right-2 c = search rules
 
-shift-right-requires : tie.Need-shift-right-requires
+shift-right-requires : tie.Need-shift_right-requires
 shift-right-requires c κs = search rules
 
 -- what `shift_right` answers
-shifted : (c : tie.After-shift-right) → let a = c.before.before.args in c.shift-right.result ≡ shr_z a.err (2 ^ a.p.agc_shift)
-shifted c = simp (widened w64 tt c.before.before.ranges.err) at c.shift-right.ensures
+shifted : (c : tie.After-shift_right) → let a = c.before.before.args in c.shift_right.result ≡ shr_z a.err (2 ^ a.p.agc_shift)
+shifted c = simp (widened w64 tt c.before.before.ranges.err) at c.shift_right.ensures
 
-sum-abs : (c : tie.After-shift-right) → nat_abs (pos c.before.before.args.acc +ℤ c.shift-right.result) < 2 ^ 63
+sum-abs : (c : tie.After-shift_right) → nat_abs (pos c.before.before.args.acc +ℤ c.shift_right.result) < 2 ^ 63
 sum-abs c =
     let s = c.before.before in
     let by = 2 ^ s.args.p.agc_shift in
     let moved = shr_z s.args.err by in
     rw (shifted c) (omega (arith, s.ranges.acc, fit-abs s.ranges.err, abs-add (pos s.args.acc) moved, abs-shr s.args.err by))
 
-add-clamp : tie.Need-overflow-add-clamp
+add-clamp : tie.Need-overflow_add-acc
 add-clamp c =
     let s = c.before.before in
-    simp (whole s.args.acc s.ranges.acc, held w64 c.shift-right.result c.shift-right.type-inv) (sfit (sum-abs c))
+    simp (whole s.args.acc s.ranges.acc, held w64 c.shift_right.result c.shift_right.type-inv) (sfit (sum-abs c))
 
 clamp-requires : tie.Need-clamp-requires
 clamp-requires c κs = search rules
@@ -54,19 +54,19 @@ clamped : (c : tie.After-clamp)
 clamped c =
     let a = c.before in
     let s = a.before.before in
-    let sum = simp (whole s.args.acc s.ranges.acc, held w64 a.shift-right.result a.shift-right.type-inv) at c.clamp.ensures in
-    let told : c.clamp.result ≡ _ = simp (back w64 (pos s.args.acc +ℤ a.shift-right.result) (sum-abs a)) at sum in
+    let sum = simp (whole s.args.acc s.ranges.acc, held w64 a.shift_right.result a.shift_right.type-inv) at c.clamp.ensures in
+    let told : c.clamp.result ≡ _ = simp (back w64 (pos s.args.acc +ℤ a.shift_right.result) (sum-abs a)) at sum in
     simp (held w64 c.clamp.result c.clamp.type-inv) (simp (shifted a) at told)
 
-cast-result : tie.Need-overflow-cast-result
+cast-result : tie.Need-overflow_cast-result
 cast-result c = rw (clamped c) (clamp-unsigned _ 0 16777215 (record { fits = lit< tt }) (record { fits = lit< tt }))
 
 returns : tie.Need-returns
 unfolding next_gain
 returns c = ap nat_abs (clamped c)
 
-pub next-gain-spec : {M : Type 1} → statement M
-next-gain-spec =
+pub next_gain_spec : {M : Type 1} → statement M
+next_gain_spec =
     tie.close
     (tie.spec
     cast-clamp

@@ -23,25 +23,25 @@ use Rattle.registers.proofs.correct.next_period.Tie as tie
 abbrev base : tie.Start → ℤ
 base s = pos s.args.p.period_nominal +ℤ shr_z s.args.v 65536
 
-nominal-fits : (c : tie.After-struct-known) → Fits w32 c.before.args.p.period_nominal
-nominal-fits c = c.struct_known.given.1.1.0
+nominal-fits : (c : tie.After-struct_known-1) → Fits w32 c.before.args.p.period_nominal
+nominal-fits c = c.struct_known-1.given.1.1.0
 
-base-abs : (c : tie.After-struct-known) → nat_abs (base c.before) < 2 ^ 62
+base-abs : (c : tie.After-struct_known-1) → nat_abs (base c.before) < 2 ^ 62
 base-abs c =
     let a = c.before.args in
     omega (arith, c.before.requires, nominal-fits c, abs-add (pos a.p.period_nominal) (shr_z a.v 65536), abs-shr a.v 65536)
 
-cast-base : tie.Need-overflow-cast-base
+cast-base : tie.Need-overflow_cast-base
 cast-base c = search rules
 
-add-base : tie.Need-overflow-add-base
+add-base : tie.Need-overflow_add-base
 add-base c =
     let s = c.before in
     simp (whole s.args.p.period_nominal (nominal-fits c), to_z-of_z s.ranges.v, to_z-of_z (shr-fits 65536 s.ranges.v))
     (sfit {z = base s} (omega (arith, base-abs c)))
 
 -- what the code holds of it
-base-is : (c : tie.After-struct-known)
+base-is : (c : tie.After-struct_known-1)
     → let a = c.before.args in in64 (to_z w64 a.p.period_nominal +ℤ in64 (shr_z (in64 a.v) 65536)) ≡ base c.before
 base-is c =
     let s = c.before in
@@ -53,8 +53,8 @@ base-is c =
 scaled-requires : tie.Need-scaled-requires
 scaled-requires c κs = search rules
 
-kp-fits : (c : tie.After-struct-told) → SFits w16 c.before.before.args.p.kp
-kp-fits c = record { sfits = search c.struct_told.given depth 40 }
+kp-fits : (c : tie.After-struct_told-1) → SFits w16 c.before.before.args.p.kp
+kp-fits c = record { sfits = search c.struct_told-1.given depth 40 }
 
 -- what `scaled` answers
 scaled-is : (c : tie.After-scaled) → let a = c.before.before.before.args in c.scaled.result ≡ round_shift (a.p.kp *ℤ a.e) a.p.kp_shift
@@ -67,25 +67,25 @@ sum-abs c =
     let moved = round_shift (s.args.p.kp *ℤ s.args.e) shift in
     rw (scaled-is c) (omega (arith, base-abs c.before.before, abs-add (base s) moved, scaled-abs shift (kp-fits c.before) s.ranges.e))
 
-add-clamp : tie.Need-overflow-add-clamp
+add-clamp : tie.Need-overflow_add-base-2
 add-clamp c = simp (base-is c.before.before, held w64 c.scaled.result c.scaled.type-inv) (sfit (sum-abs c))
 
 -- ---- the clamp
 
-cast-clamp : tie.Need-overflow-cast-clamp
+cast-clamp : tie.Need-overflow_cast-p
 cast-clamp c = search rules
 
-cast-clamp-2 : tie.Need-overflow-cast-clamp-2
+cast-clamp-2 : tie.Need-overflow_cast-p-2
 cast-clamp-2 c = search rules
 
 clamp-requires : tie.Need-clamp-requires
 clamp-requires c κs = search rules
 
-min-fits : (c : tie.After-struct-known3) → Fits w32 c.before.before.before.before.before.args.p.period_min
-min-fits c = c.struct-known3.given.1.1.1.0
+min-fits : (c : tie.After-struct_known-3-1) → Fits w32 c.before.before.before.before.before.args.p.period_min
+min-fits c = c.struct_known-3-1.given.1.1.1.0
 
-max-fits : (c : tie.After-struct-known3) → Fits w32 c.before.before.before.before.before.args.p.period_max
-max-fits c = c.struct-known3.given.1.1.1.1.0
+max-fits : (c : tie.After-struct_known-3-1) → Fits w32 c.before.before.before.before.before.args.p.period_max
+max-fits c = c.struct_known-3-1.given.1.1.1.1.0
 
 -- what `clamp` answers
 clamped : (c : tie.After-clamp)
@@ -101,15 +101,15 @@ clamped c =
     let told : c.clamp.result ≡ _ = simp (back w64 (base s +ℤ a.scaled.result) (sum-abs a)) at ends in
     simp (held w64 c.clamp.result c.clamp.type-inv) (simp (scaled-is a) at told)
 
-cast-result : tie.Need-overflow-cast-result
+cast-result : tie.Need-overflow_cast-result
 cast-result c = rw (clamped c) (clamp-unsigned _ _ _ (min-fits c.before) (max-fits c.before))
 
 returns : tie.Need-returns
 unfolding next_period
 returns c = ap nat_abs (clamped c)
 
-pub next-period-spec : {M : Type 1} → statement M
-next-period-spec =
+pub next_period_spec : {M : Type 1} → statement M
+next_period_spec =
     tie.close
     (tie.spec
     cast-base

@@ -18,13 +18,13 @@ use Rattle.registers.proofs.correct.next_v.Tie as tie
 
 -- ---- the ends
 
-max-fits : (c : tie.After-struct-told) → SFits w32 c.before.before.args.p.integrator_max
-max-fits c = record { sfits = search c.struct_told.given depth 40 }
+max-fits : (c : tie.After-struct_told-1) → SFits w32 c.before.before.args.p.integrator_max
+max-fits c = record { sfits = search c.struct_told-1.given depth 40 }
 
-cast-end : tie.Need-overflow-cast-end
+cast-end : tie.Need-overflow_cast-end
 cast-end c = widens w64 tt (max-fits c)
 
-mul-end : tie.Need-overflow-mul-end
+mul-end : tie.Need-overflow_mul-end
 mul-end c = simp (widened w64 tt (max-fits c)) (end_fits (max-fits c))
 
 -- ---- the sum
@@ -32,8 +32,8 @@ mul-end c = simp (widened w64 tt (max-fits c)) (end_fits (max-fits c))
 scaled-requires : tie.Need-scaled-requires
 scaled-requires c κs = search rules
 
-ki-fits : (c : tie.After-struct-told2) → SFits w16 c.before.before.before.args.p.ki
-ki-fits c = record { sfits = search c.struct-told2.given depth 40 }
+ki-fits : (c : tie.After-struct_told-2-1) → SFits w16 c.before.before.before.args.p.ki
+ki-fits c = record { sfits = search c.struct_told-2-1.given depth 40 }
 
 -- what `scaled` answers
 scaled-is : (c : tie.After-scaled)
@@ -47,10 +47,10 @@ sum-abs c =
     let moved = round_shift (s.args.p.ki *ℤ s.args.e) shift in
     rw (scaled-is c) (omega (arith, s.requires, abs-add s.args.v moved, scaled-abs shift (ki-fits c.before) s.ranges.e))
 
-add-clamp : tie.Need-overflow-add-clamp
+add-clamp : tie.Need-overflow_add-v
 add-clamp c = simp (to_z-of_z c.before.before.before.before.ranges.v, held w64 c.scaled.result c.scaled.type-inv) (sfit (sum-abs c))
 
-sub-clamp : tie.Need-overflow-sub-clamp
+sub-clamp : tie.Need-overflow_sub-end
 sub-clamp c = let f = max-fits c.before.before in simp (end_is f, +ℤ_idl) (low_fits f)
 
 clamp-requires : tie.Need-clamp-requires
@@ -66,7 +66,7 @@ returns c =
     let told : c.clamp.result ≡ _ = simp (back w64 (s.args.v +ℤ a.scaled.result) (sum-abs a)) at ends in
     held w64 c.clamp.result c.clamp.type-inv ∙ simp (scaled-is a) at told
 
-pub next-v-spec : {M : Type 1} → statement M
-next-v-spec =
+pub next_v_spec : {M : Type 1} → statement M
+next_v_spec =
     tie.close
     (tie.spec cast-end mul-end scaled-requires add-clamp sub-clamp clamp-requires returns)

@@ -8,14 +8,14 @@ use Rattle.arith.proofs.Bits.{held}
 use Rattle.registers.proofs.correct.scaled.Statement.{statement}
 use Rattle.registers.proofs.correct.scaled.Tie as tie
 
-round-product-requires : tie.Need-round-product-requires
+round-product-requires : tie.Need-round_product-requires
 round-product-requires c κs = search rules
 
 returns : tie.Need-returns
 returns c =
     let f = c.before.ranges in
-    let told : c.round-product.result ≡ _ = simp (to_z-of_z f.gain, to_z-of_z f.e) at c.round-product.ensures in
-    held w64 c.round-product.result c.round-product.type-inv ∙ told
+    let told : c.round_product.result ≡ _ = simp (to_z-of_z f.gain, to_z-of_z f.e) at c.round_product.ensures in
+    held w64 c.round_product.result c.round_product.type-inv ∙ told
 
-pub scaled-spec : {M : Type 1} → statement M
-scaled-spec = tie.close (tie.spec round-product-requires returns)
+pub scaled_spec : {M : Type 1} → statement M
+scaled_spec = tie.close (tie.spec round-product-requires returns)

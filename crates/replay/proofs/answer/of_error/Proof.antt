@@ -17,74 +17,74 @@ use Rattle.replay.specs.Answer.{carries_none, carries_one, carries_three, of_err
 use Rattle.replay.proofs.answer.of_error.Statement.{statement}
 use Rattle.replay.proofs.answer.of_error.Tie as tie
 
-number-requires : tie.Need-number-requires
+number-requires : tie.Need-number-number-requires
 number-requires c κs = search rules
 
-enum-known-e : tie.Need-enum-known-e
+enum-known-e : tie.Need-enum_known-e
 enum-known-e c = search rules
 
 wide-requires : tie.Need-wide-requires
 wide-requires c κs = search rules
 
-of-row-requires : tie.Need-of-row-requires
+of-row-requires : tie.Need-of_row-requires
 of-row-requires c κs = search rules
 
-enum-known-e-2 : tie.Need-enum-known-e-2
+enum-known-e-2 : tie.Need-enum_known-e-in-CoefficientSum-1
 enum-known-e-2 c = search rules
 
-i64-of-requires : tie.Need-i64-of-requires
+i64-of-requires : tie.Need-i64_of-requires
 i64-of-requires c κs = search rules
 
-of-row-requires-2 : tie.Need-of-row-requires-2
+of-row-requires-2 : tie.Need-of_row-requires-in-CoefficientSum
 of-row-requires-2 c κs = search rules
 
-enum-known-e-3 : tie.Need-enum-known-e-3
+enum-known-e-3 : tie.Need-enum_known-e-in-DetectorTaps-1
 enum-known-e-3 c = search rules
 
-of-bank-requires : tie.Need-of-bank-requires
+of-bank-requires : tie.Need-of_bank-requires
 of-bank-requires c κs = search rules
 
-enum-known-e-4 : tie.Need-enum-known-e-4
+enum-known-e-4 : tie.Need-enum_known-e-in-Range-1
 enum-known-e-4 c = search rules
 
-of-bank-requires-2 : tie.Need-of-bank-requires-2
+of-bank-requires-2 : tie.Need-of_bank-requires-in-Range
 of-bank-requires-2 c κs = search rules
 
 alone-requires : tie.Need-alone-requires
 alone-requires c κs = search rules
 
 -- the number, in a case of which the error is known
-numbered : (c : tie.After-number) {e : ParamError} → c.before.args.e ≡ e → c.number.result ≡ (error_refusal e).number
-numbered c is = c.number.ensures ∙ ap (λ (e : ParamError). (error_refusal e).number) is
+numbered : (c : tie.After-number-number) {e : ParamError} → c.before.args.e ≡ e → c.number-number.result ≡ (error_refusal e).number
+numbered c is = c.number-number.ensures ∙ ap (λ (e : ParamError). (error_refusal e).number) is
 
-returns : tie.Need-returns
+returns : tie.Need-returns-in-Coefficient
 returns c =
     let known = c.before.before.before in
-    let x = known.e.given in
+    let x = known.e-1.given in
     let value = x.0.1.1.0 in
-    let wide : c.before.wide.result ≡ value = simp (held w32 value (search c.before.before.known-told.given depth 40)) at c.before.wide.ensures in
+    let wide : c.before.wide.result ≡ value = simp (held w32 value (search c.before.before.known_told-1.given depth 40)) at c.before.wide.ensures in
     let row = simp (held w64 c.before.wide.result c.before.wide.type-inv) at c.of_row.ensures in
     row ∙ (λ i. carries_three (numbered known.before.before x.1 i) (pos x.0.0) (signed_bits x.0.1.0) (wide i)) ∙ sym (ap of_error x.1)
 
-returns-2 : tie.Need-returns-2
+returns-2 : tie.Need-returns-in-CoefficientSum
 returns-2 c =
     let known = c.before.before.before in
-    let x = known.e2.given in
-    let row = simp (held w64 c.before.i64-of.result c.before.i64-of.type-inv) at c.of-row2.ensures in
-    row ∙ (λ i. carries_three (numbered known.before.before x.1 i) (pos x.0.0) (signed_bits x.0.1.0) (c.before.i64-of.ensures i))
+    let x = known.e-in-CoefficientSum-1.given in
+    let row = simp (held w64 c.before.i64_of.result c.before.i64_of.type-inv) at c.of_row-in-CoefficientSum.ensures in
+    row ∙ (λ i. carries_three (numbered known.before.before x.1 i) (pos x.0.0) (signed_bits x.0.1.0) (c.before.i64_of.ensures i))
     ∙ sym (ap of_error x.1)
 
-returns-3 : tie.Need-returns-3
+returns-3 : tie.Need-returns-in-DetectorTaps
 returns-3 c =
     let known = c.before.before in
-    let x = known.e3.given in
-    c.of-bank.ensures ∙ ap (λ (n : ℕ). carries_one n (pos x.0.0)) (numbered known.before.before x.1) ∙ sym (ap of_error x.1)
+    let x = known.e-in-DetectorTaps-1.given in
+    c.of_bank.ensures ∙ ap (λ (n : ℕ). carries_one n (pos x.0.0)) (numbered known.before.before x.1) ∙ sym (ap of_error x.1)
 
-returns-4 : tie.Need-returns-4
+returns-4 : tie.Need-returns-in-Range
 returns-4 c =
     let known = c.before.before in
-    let x = known.e4.given in
-    c.of-bank2.ensures ∙ ap (λ (n : ℕ). carries_one n (pos x.0.0)) (numbered known.before.before x.1) ∙ sym (ap of_error x.1)
+    let x = known.e-in-Range-1.given in
+    c.of_bank-in-Range.ensures ∙ ap (λ (n : ℕ). carries_one n (pos x.0.0)) (numbered known.before.before x.1) ∙ sym (ap of_error x.1)
 
 -- the cases that carry nothing
 plain : (e : ParamError) → OneOf (0 ∷ 1 ∷ 5 ∷ 7 ∷ 8 ∷ []) (tag_of the_type e) → carries_none (error_refusal e).number ≡ of_error e
@@ -98,13 +98,13 @@ plain (Range field) k = absurd (miss (0 ∷ 1 ∷ 5 ∷ 7 ∷ 8 ∷ []) 6 tt k)
 plain AgcShift k = refl
 plain Delay k = refl
 
-returns-5 : tie.Need-returns-5
+returns-5 : tie.Need-returns-in_default
 returns-5 c =
     let keys = c.before in
-    c.alone.ensures ∙ ap carries_none keys.before.number.ensures ∙ plain keys.before.before.args.e keys.match.keys5
+    c.alone.ensures ∙ ap carries_none keys.before.number-number.ensures ∙ plain keys.before.before.args.e keys.match.keys5
 
-pub of-error-spec : {M : Type 1} → statement M
-of-error-spec =
+pub of_error_spec : {M : Type 1} → statement M
+of_error_spec =
     tie.close
     (tie.spec
     number-requires

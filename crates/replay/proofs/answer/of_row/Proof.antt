@@ -7,16 +7,16 @@ use Rattle.arith.proofs.Bits.{held}
 use Rattle.replay.proofs.answer.of_row.Statement.{statement}
 use Rattle.replay.proofs.answer.of_row.Tie as tie
 
-cast-t5 : tie.Need-overflow-cast-t5
+cast-t5 : tie.Need-overflow_cast-result
 cast-t5 c = search rules
 
-i64-of-requires : tie.Need-i64-of-requires
+i64-of-requires : tie.Need-i64_of-requires
 i64-of-requires c κs = search rules
 
 returns : tie.Need-returns
 returns c =
-    simp (held w64 c.i64-of.result c.i64-of.type-inv, to_z-of_z c.before.ranges.carried, to_z_pos w64 {n = c.before.args.bank} (omega arith))
-    (simp c.i64-of.ensures)
+    simp (held w64 c.i64_of.result c.i64_of.type-inv, to_z-of_z c.before.ranges.carried, to_z_pos w64 {n = c.before.args.bank} (omega arith))
+    (simp c.i64_of.ensures)
 
-pub of-row-spec : {M : Type 1} → statement M
-of-row-spec = tie.close (tie.spec cast-t5 i64-of-requires returns)
+pub of_row_spec : {M : Type 1} → statement M
+of_row_spec = tie.close (tie.spec cast-t5 i64-of-requires returns)

@@ -12,22 +12,22 @@ use borrow.Author.Rules.{rules}
 use Rattle.replay.proofs.banks.keep.Statement.{statement}
 use Rattle.replay.proofs.banks.keep.Tie as tie
 
-least-requires : tie.Need-least-requires
+least-requires : tie.Need-least-most-requires
 least-requires c κs = search rules
 
-least-requires-2 : tie.Need-least-requires-2
+least-requires-2 : tie.Need-least-start-requires
 least-requires-2 c κs = search rules
 
-slice-aggregate-keep-row : tie.Need-slice-aggregate-keep-row
-slice-aggregate-keep-row c = sym (length-take-le c.before.before.least.result c.before.before.before.args.coefficients.now (omega arith))
+slice-aggregate-keep-row : tie.Need-slice_bounds-keep_row-end
+slice-aggregate-keep-row c = sym (length-take-le c.before.before.least-most.result c.before.before.before.args.coefficients.now (omega arith))
 
-keep-row-requires : tie.Need-keep-row-requires
+keep-row-requires : tie.Need-keep_row-requires
 keep-row-requires c κs = search rules
 
-sub-result : tie.Need-overflow-sub-result
+sub-result : tie.Need-overflow_sub-result
 sub-result c = search rules
 
-same_length : tie.Need-same-length
+same_length : tie.Need-shape_of-room
 same_length c = search rules
 
 -- as many places are filled as there are coefficients, or as are left
@@ -44,7 +44,7 @@ returns c =
     let most = c.before.before.before.before.before.least in
     let a = c.before.before.before.before.before.before.args in
     let cs = a.coefficients.now in
-    let places = length a.room.now in
+    let places = length a.room-1.now in
     let first : take most.result cs ≡ take 8192 cs = ap (λ (k : ℕ). take k cs) most.ensures ∙ take-least 8192 cs in
     let long : length (take most.result cs) ≡ min 8192 (length cs) = length-take-le most.result cs (omega arith) ∙ most.ensures in (
       ap (λ (r : ℕ). r - start.result) row.0
@@ -52,7 +52,7 @@ returns c =
           ∙ ap (λ (s : ℕ). min (a.from + min 8192 (length cs)) places - s) start.ensures
           ∙ filled a.from (min 8192 (length cs)) places
           ∙ both (length cs) (places - min a.from places),
-      row.1 ∙ ap (λ (l : List ℤ). sets a.room.now a.from (map narrow_i32 l)) first,
+      row.1 ∙ ap (λ (l : List ℤ). sets a.room-1.now a.from (map narrow_i32 l)) first,
     )
 
 pub keep_spec : {M : Type 1} → statement M

@@ -10,28 +10,28 @@ use Rattle.rows.proofs.Parts.{drop-least, take-least}
 use Rattle.replay.proofs.banks.part.Statement.{statement}
 use Rattle.replay.proofs.banks.part.Tie as tie
 
-least-requires : tie.Need-least-requires
+least-requires : tie.Need-least-start-requires
 least-requires c κs = search rules
 
-sub-least : tie.Need-overflow-sub-least
+sub-least : tie.Need-overflow_sub-room
 sub-least c = search rules
 
-least-requires-2 : tie.Need-least-requires-2
+least-requires-2 : tie.Need-least-requires
 least-requires-2 c κs = search rules
 
-add-end : tie.Need-overflow-add-end
+add-end : tie.Need-overflow_add-end
 add-end c = search rules
 
-mul-result : tie.Need-overflow-mul-result
+mul-result : tie.Need-offset_bounds-room-start
 mul-result c = search rules
 
-sub-result : tie.Need-overflow-sub-result
+sub-result : tie.Need-slice_bounds-result-count
 sub-result c = search rules
 
-part-result-start : tie.Need-slice-bounds-result-start
+part-result-start : tie.Need-slice_bounds-result-start
 part-result-start c = search rules
 
-part-result-end : tie.Need-slice-bounds-result-end
+part-result-end : tie.Need-slice_bounds-result-end
 part-result-end c = search rules
 
 -- as many as wanted, of those that stand behind a place
@@ -43,12 +43,12 @@ behind long s l =
 returns : tie.Need-returns
 returns c =
     let a = c.before.before.before.args in
-    rw c.before.least2.ensures
-    (rw c.before.before.least.ensures (behind a.long (min a.from (length a.room.now)) a.room.now
+    rw c.before.least.ensures
+    (rw c.before.before.least-start.ensures (behind a.long (min a.from (length a.room.now)) a.room.now
     ∙ ap (λ (r : List ℤ). take a.long r) (drop-least a.from a.room.now)))
 
-pub part-spec : {M : Type 1} → statement M
-part-spec =
+pub part_spec : {M : Type 1} → statement M
+part_spec =
     tie.close
     (tie.spec
     least-requires

@@ -6,14 +6,14 @@ use Rattle.replay.proofs.Patterns.{nan-above, no-nan-below}
 use Rattle.replay.proofs.bits.f32_from_bits.Statement.{statement}
 use Rattle.replay.proofs.bits.f32_from_bits.Tie as tie
 
-returns : tie.Need-returns
-returns c = nan-above binary32 c.before.args.bits c.if1.true
+returns : tie.Need-returns-then-bits-gt2139095040
+returns c = nan-above binary32 c.before.args.bits c.if-bits-gt2139095040.true
 
-float-from-bits-result : tie.Need-float-from-bits-result
-float-from-bits-result c = no-nan-below binary32 c.before.args.bits c.if1.false
+float-from-bits-result : tie.Need-float_from_bits-result
+float-from-bits-result c = no-nan-below binary32 c.before.args.bits c.if-bits-gt2139095040.false
 
-returns-2 : tie.Need-returns-2
+returns-2 : tie.Need-returns
 returns-2 c = search rules
 
-pub f32-from-bits-spec : {M : Type 1} → statement M
-f32-from-bits-spec = tie.close (tie.spec returns float-from-bits-result returns-2)
+pub f32_from_bits_spec : {M : Type 1} → statement M
+f32_from_bits_spec = tie.close (tie.spec returns float-from-bits-result returns-2)

@@ -13,14 +13,14 @@ pattern : 0x7ff8_0000_0000_0000 ≡ to_bits binary64 nan
 unfolding to_bits
 pattern = refl
 
-returns : tie.Need-returns
-returns c = pattern ∙ ap (to_bits binary64) (sym (differs_from_itself c.before.args.x (subst T (sym c.if1.true) tt)))
+returns : tie.Need-returns-then-x
+returns c = pattern ∙ ap (to_bits binary64) (sym (differs_from_itself c.before.args.x (subst T (sym c.if-x.true) tt)))
 
-float-to-bits-result : tie.Need-float-to-bits-result
-float-to-bits-result c = no_nan c.before.args.x c.if1.false
+float-to-bits-result : tie.Need-float_to_bits-result
+float-to-bits-result c = no_nan c.before.args.x c.if-x.false
 
-returns-2 : tie.Need-returns-2
+returns-2 : tie.Need-returns
 returns-2 c = search rules
 
-pub f64-to-bits-spec : {M : Type 1} → statement M
-f64-to-bits-spec = tie.close (tie.spec returns float-to-bits-result returns-2)
+pub f64_to_bits_spec : {M : Type 1} → statement M
+f64_to_bits_spec = tie.close (tie.spec returns float-to-bits-result returns-2)

@@ -3,56 +3,56 @@ use Rattle.std.proofs.Common.{◌≡◌, ◌-◌, ◌≤◌, length, rules}
 use Rattle.replay_calls.proofs.states.line_of.Statement.{statement}
 use Rattle.replay_calls.proofs.states.line_of.Tie as tie
 
-abbrev invariant-loop : tie.invariant-loop
+abbrev invariant-loop : tie.invariant-loop-n
 invariant-loop numbers line₀ n₀ line n = (length line ≡ 64) × (n ≤ 64)
 
-abbrev decreases-loop : tie.decreases-loop
+abbrev decreases-loop : tie.decreases-loop-n
 decreases-loop numbers line₀ n₀ line n = 64 - n
 
-loop-holds : tie.Need-loop-init invariant-loop decreases-loop
+loop-holds : tie.Need-loop-n-init invariant-loop decreases-loop
 loop-holds c = search rules
 
-mul_at : tie.Need-overflow-mul-at invariant-loop decreases-loop
+mul_at : tie.Need-overflow_mul-n invariant-loop decreases-loop
 mul_at c = search rules
 
 at-requires : tie.Need-at-requires invariant-loop decreases-loop
 at-requires c κs = search rules
 
-narrow-i32-requires : tie.Need-narrow-i32-requires invariant-loop decreases-loop
+narrow-i32-requires : tie.Need-narrow_i32-requires invariant-loop decreases-loop
 narrow-i32-requires c κs = search rules
 
-mul-at-2 : tie.Need-overflow-mul-at-2 invariant-loop decreases-loop
+mul-at-2 : tie.Need-overflow_mul-n-in-loop-n invariant-loop decreases-loop
 mul-at-2 c = search rules
 
-add_at : tie.Need-overflow-add-at invariant-loop decreases-loop
+add_at : tie.Need-overflow_add-n invariant-loop decreases-loop
 add_at c = search rules
 
-at-requires-2 : tie.Need-at-requires-2 invariant-loop decreases-loop
+at-requires-2 : tie.Need-at-requires-in-loop-n invariant-loop decreases-loop
 at-requires-2 c κs = search rules
 
-narrow-i32-requires-2 : tie.Need-narrow-i32-requires-2 invariant-loop decreases-loop
+narrow-i32-requires-2 : tie.Need-narrow_i32-requires-in-loop-n invariant-loop decreases-loop
 narrow-i32-requires-2 c κs = search rules
 
-mul-line : tie.Need-overflow-mul-line invariant-loop decreases-loop
+mul-line : tie.Need-offset_bounds-line-n invariant-loop decreases-loop
 mul-line c = search rules
 
-array-set-from-line : tie.Need-array-set-from-line invariant-loop decreases-loop
+array-set-from-line : tie.Need-bounds-line-n invariant-loop decreases-loop
 array-set-from-line c = search rules
 
-add-n : tie.Need-overflow-add-n invariant-loop decreases-loop
+add-n : tie.Need-overflow_add-n invariant-loop decreases-loop
 add-n c = search rules
 
-loop-less : tie.Need-loop-smaller invariant-loop decreases-loop
+loop-less : tie.Need-loop-n-smaller invariant-loop decreases-loop
 loop-less c = search rules
 
-loop-again : tie.Need-loop-preserved invariant-loop decreases-loop
+loop-again : tie.Need-loop-n-preserved invariant-loop decreases-loop
 loop-again c = search rules
 
 returns : tie.Need-returns invariant-loop decreases-loop
 returns c = search rules
 
-pub line-of-spec : {M : Type 1} → statement M
-line-of-spec =
+pub line_of_spec : {M : Type 1} → statement M
+line_of_spec =
     tie.close
     (tie.spec
     invariant-loop

@@ -5,7 +5,7 @@ use Rattle.arith.proofs.Bits.{widens}
 use Rattle.replay_floats.proofs.answers.wide.Statement.{statement}
 use Rattle.replay_floats.proofs.answers.wide.Tie as tie
 
-cast-result : tie.Need-overflow-cast-result
+cast-result : tie.Need-overflow_cast-result
 cast-result c = widens w64 tt c.ranges.v
 
 returns : tie.Need-returns

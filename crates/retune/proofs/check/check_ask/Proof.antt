@@ -26,30 +26,30 @@ of-state : (s : Sheet) (f : Frontend) {r : Refusal} → faults s ≡ [] → r �
 unfolding ask_faults
 of-state s f none e = e ∙ sym (first_rest (faults s) _ none)
 
-validate-requires : tie.Need-validate-requires
+validate-requires : tie.Need-validate-verdict-requires
 validate-requires c κs = search rules
 
-enum-known-verdict : tie.Need-enum-known-verdict
+enum-known-verdict : tie.Need-enum_known-verdict
 enum-known-verdict c = search rules
 
-returns : tie.Need-returns
+returns : tie.Need-returns-in-Refused
 returns c =
     let v = c.before.before.before in
-    of-sheet (sheet v.before) v.before.args.f v.validate.ensures c.before.verdict.given.1
+    of-sheet (sheet v.before) v.before.args.f v.validate-verdict.ensures c.before.verdict-1.given.1
 
-enum_told : tie.Need-enum-told
+enum_told : tie.Need-enum_told-1
 enum_told c = search rules
 
-check-held-requires : tie.Need-check-held-requires
+check-held-requires : tie.Need-check_held-requires
 check-held-requires c κs = search rules
 
-returns-2 : tie.Need-returns-2
+returns-2 : tie.Need-returns
 returns-2 c =
     let v = c.before.before.before in
     let s = v.before in
-    of-state (sheet s) s.args.f (sheet-passes (sheet s) v.validate.ensures c.before.enum_told.given.1) c.check-held.ensures
+    of-state (sheet s) s.args.f (sheet-passes (sheet s) v.validate-verdict.ensures c.before.enum_told-1.given.1) c.check_held.ensures
 
-pub check-ask-spec : {M : Type 1} → statement M
-check-ask-spec =
+pub check_ask_spec : {M : Type 1} → statement M
+check_ask_spec =
     tie.close
     (tie.spec validate-requires enum-known-verdict returns enum_told check-held-requires returns-2)

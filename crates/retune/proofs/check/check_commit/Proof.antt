@@ -23,43 +23,43 @@ as-asked : (s : Sheet) (ticket : ℕ) (f : Frontend) {r : Refusal} → 0 < r.num
 unfolding commit_faults
 as-asked s ticket f h e = first-answer (ask_faults s f) _ h e
 
-by-ticket : (s : Sheet) (ticket : ℕ) (f : Frontend) {b : Bool} → ask_faults s f ≡ [] → eqb ticket f.registers.symbols ≡ b
+by-ticket : (s : Sheet) (ticket : ℕ) (f : Frontend) {b : Bool} → ask_faults s f ≡ [] → eqb ticket f.registers-1.symbols ≡ b
     → first_of (unless b (refusal 28 [])) ≡ first_of (commit_faults s ticket f)
 unfolding commit_faults
 by-ticket s ticket f none e = sym (first_rest (ask_faults s f) _ none ∙ ap (λ (b : Bool). first_of (unless b (refusal 28 []))) e)
 
-check-ask-requires : tie.Need-check-ask-requires
+check-ask-requires : tie.Need-check_ask-verdict-requires
 check-ask-requires c κs = search rules
 
-enum_told : tie.Need-enum-told
+enum_told : tie.Need-enum_told-1
 enum_told c = search rules
 
 -- asking refuses nothing: the ticket decides
-tested : (c : tie.After-enum-told) {b : Bool}
+tested : (c : tie.In-Accepted) {b : Bool}
     → let s = c.before.before.before.before in eqb s.args.ticket s.args.f.registers.symbols ≡ b
     → first_of (unless b (refusal 28 [])) ≡ first_of (commit_faults (sheet s) s.args.ticket s.args.f)
 tested c e =
     let t = c.before.before.before in
     let s = t.before in
-    by-ticket (sheet s) s.args.ticket s.args.f (passes (ask-numbered (sheet s) s.args.f) t.check-ask.ensures c.enum_told.given.1) e
+    by-ticket (sheet s) s.args.ticket s.args.f (passes (ask-numbered (sheet s) s.args.f) t.check_ask-verdict.ensures c.enum_told-1.given.1) e
 
-returns : tie.Need-returns
+returns : tie.Need-returns-then-ticket-registers
 returns c =
     let t = c.before.before in
     let a = t.before.before.before.before.args in
-    tested t {b = false} (ne_eqb a.ticket a.f.registers.symbols c.if1.true)
+    tested t {b = false} (ne_eqb a.ticket a.f.registers.symbols c.if-ticket-registers.true)
 
-returns-2 : tie.Need-returns-2
+returns-2 : tie.Need-returns-else-ticket-registers
 returns-2 c =
     let t = c.before.before in
     let a = t.before.before.before.before.args in
-    tested t {b = true} (eq-eqb a.ticket a.f.registers.symbols c.if1.false)
+    tested t {b = true} (eq-eqb a.ticket a.f.registers.symbols c.if-ticket-registers.false)
 
-returns-3 : tie.Need-returns-3
+returns-3 : tie.Need-returns-in_default
 returns-3 c =
     let t = c.before.before in
     let s = t.before in
-    as-asked (sheet s) s.args.ticket s.args.f (refuses t.check-ask.result c.match.keys2) t.check-ask.ensures
+    as-asked (sheet s) s.args.ticket s.args.f (refuses t.check_ask-verdict.result c.match.keys2) t.check_ask-verdict.ensures
 
-pub check-commit-spec : {M : Type 1} → statement M
-check-commit-spec = tie.close (tie.spec check-ask-requires enum_told returns returns-2 returns-3)
+pub check_commit_spec : {M : Type 1} → statement M
+check_commit_spec = tie.close (tie.spec check-ask-requires enum_told returns returns-2 returns-3)

@@ -26,42 +26,42 @@ answer : (p : Params) (f : Frontend) {r : Refusal} → First (unless (eqb p.dela
 unfolding held_faults
 answer p f first = first.is
 
-returns : tie.Need-returns
+returns : tie.Need-returns-then-p-held
 returns c =
     let a = c.before.before.before.before.args in
-    answer a.p a.f (breaks (lit< tt) (ne_eqb a.p.delay a.f.params.delay c.if1.true))
+    answer a.p a.f (breaks (lit< tt) (ne_eqb a.p.delay a.f.params.delay c.if-p-held.true))
 
-is-good-requires : tie.Need-is-good-requires
+is-good-requires : tie.Need-is_good-requires
 is-good-requires c κs = search rules
 
 -- past the first test, and past the second
-past1 : (c : tie.Else1) {r : Refusal} → let a = c.before.before.before.before.args in First (rest a.p a.f) r → r ≡ first_of (held_faults a.p a.f)
+past1 : (c : tie.Else-p-held) {r : Refusal} → let a = c.before.before.before.before.args in First (rest a.p a.f) r → r ≡ first_of (held_faults a.p a.f)
 past1 c first =
     let a = c.before.before.before.before.args in
-    answer a.p a.f (keeps (refusal 29 []) (eq-eqb a.p.delay a.f.params.delay c.if1.false) first)
+    answer a.p a.f (keeps (refusal 29 []) (eq-eqb a.p.delay a.f.params.delay c.if-p-held.false) first)
 
-returns-2 : tie.Need-returns-2
+returns-2 : tie.Need-returns-then-not-is_good
 returns-2 c =
     let t = c.before in
-    past1 t.before (breaks (lit< tt) (sym t.is-good.ensures ∙ not-true t.is-good.result c.if2.true))
+    past1 t.before (breaks (lit< tt) (sym t.is_good.ensures ∙ not-true t.is_good.result c.if-not-is_good.true))
 
-past2 : (c : tie.Else2) {r : Refusal}
+past2 : (c : tie.Else-not-is_good) {r : Refusal}
     → let a = c.before.before.before.before.before.before.args in First (last a.p a.f) r → r ≡ first_of (held_faults a.p a.f)
 past2 c first =
     let t = c.before in
-    past1 t.before (keeps (refusal 9 []) (sym t.is-good.ensures ∙ not-false t.is-good.result c.if2.false) first)
+    past1 t.before (keeps (refusal 9 []) (sym t.is_good.ensures ∙ not-false t.is_good.result c.if-not-is_good.false) first)
 
-returns-3 : tie.Need-returns-3
+returns-3 : tie.Need-returns-then-p-held-2
 returns-3 c =
     let t = c.before.before.before in
     let a = t.before.before.before.before.before.before.args in
-    past2 t (breaks (lit< tt) (ne_eqb a.p.taps a.f.params.taps c.if3.true))
+    past2 t (breaks (lit< tt) (ne_eqb a.p.taps a.f.params.taps c.if-p-held-2.true))
 
-returns-4 : tie.Need-returns-4
+returns-4 : tie.Need-returns
 returns-4 c =
     let t = c.before.before.before in
     let a = t.before.before.before.before.before.before.args in
-    past2 t (keeps (refusal 27 []) (eq-eqb a.p.taps a.f.params.taps c.if3.false) none)
+    past2 t (keeps (refusal 27 []) (eq-eqb a.p.taps a.f.params.taps c.if-p-held-2.false) none)
 
-pub check-held-spec : {M : Type 1} → statement M
-check-held-spec = tie.close (tie.spec returns is-good-requires returns-2 returns-3 returns-4)
+pub check_held_spec : {M : Type 1} → statement M
+check_held_spec = tie.close (tie.spec returns is-good-requires returns-2 returns-3 returns-4)

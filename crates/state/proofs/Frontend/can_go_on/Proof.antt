@@ -4,15 +4,15 @@ use Rattle.state.specs.Check.{can_go_on}
 use Rattle.state.proofs.Frontend.can_go_on.Statement.{statement}
 use Rattle.state.proofs.Frontend.can_go_on.Tie as tie
 
-are-same-requires : tie.Need-are-same-requires
+are-same-requires : tie.Need-are_same-requires
 are-same-requires c κs = search rules
 
-is-good-requires : tie.Need-is-good-requires
+is-good-requires : tie.Need-is_good-requires
 is-good-requires c κs = search rules
 
 returns : tie.Need-returns
 unfolding can_go_on
-returns c = rw (c.before.are-same.ensures, c.is-good.ensures)
+returns c = rw (c.before.are_same.ensures, c.is_good.ensures)
 
-pub can-go-on-spec : {M : Type 1} → statement M
-can-go-on-spec = tie.close (tie.spec are-same-requires is-good-requires returns)
+pub can_go_on_spec : {M : Type 1} → statement M
+can_go_on_spec = tie.close (tie.spec are-same-requires is-good-requires returns)

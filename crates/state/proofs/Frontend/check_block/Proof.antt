@@ -9,28 +9,28 @@ use Rattle.state.proofs.Frontend.check_block.Tie as tie
 abbrev sheet : tie.Start → Sheet
 sheet s = sheet_of s.args.p s.args.h.now s.args.g.now s.args.k.now
 
-check-state-requires : tie.Need-check-state-requires
+check-state-requires : tie.Need-check_state-verdict-requires
 check-state-requires c κs = search rules
 
-enum_told : tie.Need-enum-told
+enum_told : tie.Need-enum_told-1
 enum_told c = search rules
 
-check-sizes-requires : tie.Need-check-sizes-requires
+check-sizes-requires : tie.Need-check_sizes-requires
 check-sizes-requires c κs = search rules
 
-returns : tie.Need-returns
+returns : tie.Need-returns-in-Accepted
 returns c =
     let t = c.before.before.before in
     let a = t.before.args in
     sizes-answer (sheet t.before) a.self a.values a.places
-    (passes (state-numbered (sheet t.before) a.self) t.check-state.ensures c.before.enum_told.given.1) c.check-sizes.ensures
+    (passes (state-numbered (sheet t.before) a.self) t.check_state-verdict.ensures c.before.enum_told-1.given.1) c.check_sizes.ensures
 
-returns-2 : tie.Need-returns-2
+returns-2 : tie.Need-returns-in_default
 returns-2 c =
     let t = c.before in
     let a = t.before.args in
-    state-refuses (sheet t.before) a.self a.values a.places (refuses t.check-state.result c.match.keys2) t.check-state.ensures
+    state-refuses (sheet t.before) a.self a.values a.places (refuses t.check_state-verdict.result c.match.keys2) t.check_state-verdict.ensures
 
-pub check-block-spec : {M : Type 1} → statement M
-check-block-spec =
+pub check_block_spec : {M : Type 1} → statement M
+check_block_spec =
     tie.close (tie.spec check-state-requires enum_told check-sizes-requires returns returns-2)

@@ -15,37 +15,37 @@ use Rattle.state.proofs.Frontend.check_state.Tie as tie
 abbrev sheet : tie.Start → Sheet
 sheet s = sheet_of s.args.p s.args.h.now s.args.g.now s.args.k.now
 
-validate-requires : tie.Need-validate-requires
+validate-requires : tie.Need-validate-verdict-requires
 validate-requires c κs = search rules
 
-enum-known-verdict : tie.Need-enum-known-verdict
+enum-known-verdict : tie.Need-enum_known-verdict
 enum-known-verdict c = search rules
 
-returns : tie.Need-returns
-returns c = let v = c.before.before.before in sheet-refuses (sheet v.before) _ v.validate.ensures c.before.verdict.given.1
+returns : tie.Need-returns-in-Refused
+returns c = let v = c.before.before.before in sheet-refuses (sheet v.before) _ v.validate-verdict.ensures c.before.verdict-1.given.1
 
-enum_told : tie.Need-enum-told
+enum_told : tie.Need-enum_told-1
 enum_told c = search rules
 
-can-go-on-requires : tie.Need-can-go-on-requires
+can-go-on-requires : tie.Need-can_go_on-requires
 can-go-on-requires c κs = search rules
 
 -- an accepted sheet: the answer by what the test came to
-tested : (c : tie.After-can-go-on) {b : Bool} → c.can-go-on.result ≡ b
+tested : (c : tie.After-can_go_on) {b : Bool} → c.can_go_on.result ≡ b
     → let s = c.before.before.before.before in first_of (unless b (refusal 9 [])) ≡ first_of (state_faults (sheet s) s.args.self)
 tested c e =
     let v = c.before.before.before in
-    state-answer (sheet v.before) v.before.args.self (sheet-passes (sheet v.before) v.validate.ensures c.before.enum_told.given.1)
-    (sym c.can-go-on.ensures ∙ e)
+    state-answer (sheet v.before) v.before.args.self (sheet-passes (sheet v.before) v.validate-verdict.ensures c.before.enum_told-1.given.1)
+    (sym c.can_go_on.ensures ∙ e)
 
-returns-2 : tie.Need-returns-2
-returns-2 c = tested c.before (not-true c.before.can-go-on.result c.if1.true)
+returns-2 : tie.Need-returns-then-not-can_go_on
+returns-2 c = tested c.before (not-true c.before.can_go_on.result c.if-not-can_go_on.true)
 
-returns-3 : tie.Need-returns-3
-returns-3 c = tested c.before (not-false c.before.can-go-on.result c.if1.false)
+returns-3 : tie.Need-returns
+returns-3 c = tested c.before (not-false c.before.can_go_on.result c.if-not-can_go_on.false)
 
-pub check-state-spec : {M : Type 1} → statement M
-check-state-spec =
+pub check_state_spec : {M : Type 1} → statement M
+check_state_spec =
     tie.close
     (tie.spec
     validate-requires

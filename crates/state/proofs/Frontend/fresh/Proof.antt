@@ -8,5 +8,5 @@ returns : tie.Need-returns
 unfolding fresh
 returns c = refl
 
-pub fresh-spec : {M : Type 1} → statement M
-fresh-spec = tie.close (tie.spec returns)
+pub fresh_spec : {M : Type 1} → statement M
+fresh_spec = tie.close (tie.spec returns)

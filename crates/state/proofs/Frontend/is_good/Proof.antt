@@ -8,13 +8,13 @@ use Rattle.state.proofs.Frontend.is_good.Tie as tie
 position-requires : tie.Need-position-requires
 position-requires c κs = search rules
 
-is-good-state-requires : tie.Need-is-good-state-requires
+is-good-state-requires : tie.Need-is_good_state-requires
 is-good-state-requires c κs = search rules
 
 returns : tie.Need-returns
 returns c =
     let a = c.before.before.before.args in
-    c.is-good-state.ensures ∙ outline-good a.p a.self c.before.position.ensures
+    c.is_good_state.ensures ∙ outline-good a.p a.self c.before.position.ensures
 
-pub is-good-spec : {M : Type 1} → statement M
-is-good-spec = tie.close (tie.spec position-requires is-good-state-requires returns)
+pub is_good_spec : {M : Type 1} → statement M
+is_good_spec = tie.close (tie.spec position-requires is-good-state-requires returns)

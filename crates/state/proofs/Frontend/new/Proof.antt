@@ -29,10 +29,10 @@ starts : (s : Sheet) {v : Verdict} {f : Frontend} → verdict_refusal v ≡ judg
 unfolding start_of
 starts s told is new = let none : judged s ≡ nothing = sym told ∙ ap verdict_refusal is in rw none (λ i. record { refused = nothing; state = new i })
 
-validate-requires : tie.Need-validate-requires
+validate-requires : tie.Need-validate-verdict-requires
 validate-requires c κs = search rules
 
-enum-known-verdict : tie.Need-enum-known-verdict
+enum-known-verdict : tie.Need-enum_known-verdict
 enum-known-verdict c = search rules
 
 none-requires : tie.Need-none-requires
@@ -41,24 +41,24 @@ none-requires c κs = search rules
 fresh-requires : tie.Need-fresh-requires
 fresh-requires c κs = search rules
 
-returns : tie.Need-returns
+returns : tie.Need-returns-in-Refused
 returns c =
     let n = c.before in
     let v = n.before.before.before.before in
-    let e = n.before.before.verdict.given in
-    none-starts (sheet v.before) (error-numbered e.0.0) (refused {r = judged (sheet v.before)} v.validate.ensures e.1)
+    let e = n.before.before.verdict-1.given in
+    none-starts (sheet v.before) (error-numbered e.0.0) (refused {r = judged (sheet v.before)} v.validate-verdict.ensures e.1)
     (c.fresh.ensures ∙ ap fresh n.none.ensures)
 
-enum_told : tie.Need-enum-told
+enum_told : tie.Need-enum_told-1
 enum_told c = search rules
 
 fresh-requires-2 : tie.Need-fresh-requires-2
 fresh-requires-2 c κs = search rules
 
-returns-2 : tie.Need-returns-2
+returns-2 : tie.Need-returns
 returns-2 c =
     let v = c.before.before.before in
-    starts (sheet v.before) v.validate.ensures c.before.enum_told.given.1 c.fresh2.ensures
+    starts (sheet v.before) v.validate-verdict.ensures c.before.enum_told-1.given.1 c.fresh-2.ensures
 
 pub new_spec : {M : Type 1} → statement M
 new_spec =

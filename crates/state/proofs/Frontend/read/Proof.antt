@@ -29,21 +29,21 @@ none_read : (s : Sheet) (f : Frontend) {r : Refusal} → 0 < r.number → r ≡ 
 unfolding read_of
 none_read s f h told = rw (not_none told h) (λ i. record { refused = told i; period = 0; gain = 0; symbols = 0 })
 
-check-state-requires : tie.Need-check-state-requires
+check-state-requires : tie.Need-check_state-verdict-requires
 check-state-requires c κs = search rules
 
-enum_told : tie.Need-enum-told
+enum_told : tie.Need-enum_told-1
 enum_told c = search rules
 
-faultless : (c : tie.After-enum-told) → let s = c.before.before.before.before in state_faults (sheet s) s.args.self ≡ []
+faultless : (c : tie.In-Accepted) → let s = c.before.before.before.before in state_faults (sheet s) s.args.self ≡ []
 faultless c =
     let t = c.before.before.before in
-    passes (state-numbered (sheet t.before) t.before.args.self) t.check-state.ensures c.enum_told.given.1
+    passes (state-numbered (sheet t.before) t.before.args.self) t.check_state-verdict.ensures c.enum_told-1.given.1
 
 gain-requires : tie.Need-gain-requires
 gain-requires c κs = search rules
 
-returns : tie.Need-returns
+returns : tie.Need-returns-in-Accepted
 returns c =
     let s = c.before.before.before.before.before in
     let f = s.args.self in
@@ -51,10 +51,10 @@ returns c =
     let small : f.registers.gain_acc / 256 % 65536 ≡ f.registers.gain_acc / 256 = omega (arith, few) in
     reads (sheet s) f (faultless c.before) (c.gain.ensures ∙ small)
 
-returns-2 : tie.Need-returns-2
+returns-2 : tie.Need-returns-in_default
 returns-2 c =
     let t = c.before.before in
-    none_read (sheet t.before) t.before.args.self (refuses t.check-state.result c.match.keys2) t.check-state.ensures
+    none_read (sheet t.before) t.before.args.self (refuses t.check_state-verdict.result c.match.keys2) t.check_state-verdict.ensures
 
 pub read_spec : {M : Type 1} → statement M
 read_spec = tie.close (tie.spec check-state-requires enum_told gain-requires returns returns-2)

@@ -25,22 +25,22 @@ use Rattle.state.proofs.check.is_good_state.Tie as tie
 
 -- ---- the integrator's ends
 
-most : (c : tie.After-struct-told) → SFits w32 c.before.before.args.p.integrator_max
-most c = record { sfits = search c.struct_told.given depth 40 }
+most : (c : tie.After-struct_told-1) → SFits w32 c.before.before.args.p.integrator_max
+most c = record { sfits = search c.struct_told-1.given depth 40 }
 
-cast-end : tie.Need-overflow-cast-end
+cast-end : tie.Need-overflow_cast-end
 cast-end c = widens w64 tt (most c)
 
-mul-end : tie.Need-overflow-mul-end
+mul-end : tie.Need-overflow_mul-end
 mul-end c = simp (widened w64 tt (most c)) (end_fits (most c))
 
-cast-delay : tie.Need-overflow-cast-delay
-cast-delay c = Fits-widen {w = w8} tt c.struct-known2.given.1.1.1.1.1.1.1.1.1.1.1.1.1.1.1.1.1.0
+cast-delay : tie.Need-overflow_cast-delay
+cast-delay c = Fits-widen {w = w8} tt c.struct_known-2-1.given.1.1.1.1.1.1.1.1.1.1.1.1.1.1.1.1.1.0
 
-cast-if2 : tie.Need-overflow-cast-if2
+cast-if2 : tie.Need-overflow_cast-p
 cast-if2 c = search rules
 
-sub-if5 : tie.Need-overflow-sub-if5
+sub-if5 : tie.Need-overflow_sub-end
 sub-if5 c = let m = most c.before.before.before.before.before.before.before.before in simp (end_is m, +ℤ_idl) (low_fits m)
 
 -- ---- how many errors wait
@@ -51,10 +51,10 @@ under n delay h = omega arith
 over : (n delay : ℕ) → delay ≤ n → delay ≡ min n delay
 over n delay h = omega arith
 
-waits : (c : tie.Joined1) → let a = c.before.before.before.before.before.args in c.if1.waiting ≡ min a.r.symbols a.p.delay
+waits : (c : tie.Joined-r-delay) → let a = c.before.before.before.before.before.args in c.if-r-delay.waiting ≡ min a.r.symbols a.p.delay
 waits c =
     let a = c.before.before.before.before.before.args in
-    ⊎_elim (λ t. t.1 ∙ under a.r.symbols a.p.delay t.0.taken) (λ e. e.1 ∙ over a.r.symbols a.p.delay e.0.left) c.if1.branch
+    ⊎_elim (λ t. t.1 ∙ under a.r.symbols a.p.delay t.0.taken) (λ e. e.1 ∙ over a.r.symbols a.p.delay e.0.left) c.if-r-delay.branch
 
 -- ---- the tests so far, and the next
 
@@ -78,69 +78,69 @@ module _ (s : tie.Start) where
   good10 = good8 && eqb s.args.w.waiting (min s.args.r.symbols s.args.p.delay) && ltb s.args.w.oldest ring_places
 
 -- where the function began, from its second test and from its tenth
-abbrev start : tie.Joined2 → tie.Start
+abbrev start : tie.Joined-w-p → tie.Start
 start c = c.before.before.before.before.before.before.before.before
 
-abbrev start-10 : tie.Joined10 → tie.Start
+abbrev start-10 : tie.Joined-w-waiting → tie.Start
 start-10 c = start c.before.before.before.before.before.before.before.before
 
-passed2 : (c : tie.Joined2) → c.if2.if3 ≡ good2 (start c)
+passed2 : (c : tie.Joined-w-p) → c.if-w-p.if3 ≡ good2 (start c)
 passed2 c =
     let a = (start c).args in
-    and-next {so_far = ltb a.w.head a.p.taps} refl c.if2.branch
+    and-next {so_far = ltb a.w.head a.p.taps} refl c.if-w-p.branch
     (λ t. (lt-ltb a.w.head a.p.taps t.0.taken, t.3 ∙ ap (le_z (pos 0)) (held w64 a.r.t_acc t.2.given.1.0.1)))
     (λ n. (le-ltb a.w.head a.p.taps n.0.left, n.1))
 
-passed3 : (c : tie.Joined3) → c.if3.if4 ≡ good3 (start c.before)
+passed3 : (c : tie.Joined-r-ge0) → c.if-r-ge0.if4 ≡ good3 (start c.before)
 passed3 c =
-    and-next (passed2 c.before) c.if3.branch
+    and-next (passed2 c.before) c.if-r-ge0.branch
     (λ t. (t.0.taken, t.3 ∙ ap (λ (z : ℤ). lt_z z (pos 67108864)) (held w64 (start c.before).args.r.t_acc t.2.given.1.0.1)))
     (λ n. (n.0.left, n.1))
 
-passed5 : (c : tie.Joined5) → c.if5.if6 ≡ good5 (start c.before.before.before)
+passed5 : (c : tie.Joined-end-r) → c.if-end-r.if6 ≡ good5 (start c.before.before.before)
 passed5 c =
     let s = start c.before.before.before in
     let v = s.args.r.v in
     let m = most c.before.before.before.before.before.before.before.before.before in
     let high = integrator_end s.args.p in
     and-next
-    (and-next (passed3 c.before.before) c.before.if4.branch (λ t. (t.0.taken, t.3 ∙ low-test m v t.2.given.1.1.0.1))
+    (and-next (passed3 c.before.before) c.before.if-r-lt67108864.branch (λ t. (t.0.taken, t.3 ∙ low-test m v t.2.given.1.1.0.1))
     (λ n. (n.0.left, n.1)))
-    c.if5.branch (λ t. (t.0.taken, t.3 ∙ high-test m v t.2.given.1.1.0.1)) (λ n. (n.0.left, n.1))
+    c.if-end-r.branch (λ t. (t.0.taken, t.3 ∙ high-test m v t.2.given.1.1.0.1)) (λ n. (n.0.left, n.1))
     ∙ and_assoc (good3 s) (le_z (neg_ℤ high) v) (le_z v high)
 
-passed8 : (c : tie.Joined8) → c.if8.if9 ≡ good8 (start c.before.before.before.before.before.before)
+passed8 : (c : tie.Joined-r-p) → c.if-r-p.if9 ≡ good8 (start c.before.before.before.before.before.before)
 passed8 c =
     and-next
     (and-next
-    (and-next (passed5 c.before.before.before) c.before.before.if6.branch (λ t. (t.0.taken, t.3)) (λ n. (n.0.left, n.1)))
-    c.before.if7.branch (λ t. (t.0.taken, t.3)) (λ n. (n.0.left, n.1)))
-    c.if8.branch (λ t. (t.0.taken, t.2)) (λ n. (n.0.left, n.1))
+    (and-next (passed5 c.before.before.before) c.before.before.if-r-end.branch (λ t. (t.0.taken, t.3)) (λ n. (n.0.left, n.1)))
+    c.before.if-p-r.branch (λ t. (t.0.taken, t.3)) (λ n. (n.0.left, n.1)))
+    c.if-r-p.branch (λ t. (t.0.taken, t.2)) (λ n. (n.0.left, n.1))
 
-passed10 : (c : tie.Joined10) → c.if10.if11 ≡ good10 (start-10 c)
+passed10 : (c : tie.Joined-w-waiting) → c.if-w-waiting.if11 ≡ good10 (start-10 c)
 passed10 c =
     let s = start-10 c in
     let waiting = waits c.before.before.before.before.before.before.before.before.before.before.before in
     and-next
-    (and-next (passed8 c.before.before) c.before.if9.branch
+    (and-next (passed8 c.before.before) c.before.if-r-le16777215.branch
     (λ t. (t.0.taken, t.2 ∙ ap (eqb s.args.w.waiting) waiting)) (λ n. (n.0.left, n.1)))
-    c.if10.branch (λ t. (t.0.taken, t.2)) (λ n. (n.0.left, n.1))
+    c.if-w-waiting.branch (λ t. (t.0.taken, t.2)) (λ n. (n.0.left, n.1))
 
 -- ---- what is returned
 
 -- all tests but the last, by what they came to
-but_last : (c : tie.Joined10) (b : Bool) → c.if10.if11 ≡ b
+but_last : (c : tie.Joined-w-waiting) (b : Bool) → c.if-w-waiting.if11 ≡ b
     → let a = (start-10 c).args in (b && leb a.r.symbols a.w.samples) ≡ good_state a.p (outline a.r a.w)
 unfolding good_state
 but_last c b e =
     let a = (start-10 c).args in
     with-next (leb a.r.symbols a.w.samples) (sym e ∙ passed10 c)
 
-returns : tie.Need-returns
-returns c = but_last c.before.before.before true c.before.before.if11.true
+returns : tie.Need-returns-then-w-lt-RING_PLACES
+returns c = but_last c.before.before.before true c.before.before.if-w-lt-RING_PLACES.true
 
-returns-2 : tie.Need-returns-2
-returns-2 c = c.if11.false ∙ but_last c.before false c.if11.false
+returns-2 : tie.Need-returns-else-w-lt-RING_PLACES
+returns-2 c = c.if-w-lt-RING_PLACES.false ∙ but_last c.before false c.if-w-lt-RING_PLACES.false
 
-pub is-good-state-spec : {M : Type 1} → statement M
-is-good-state-spec = tie.close (tie.spec cast-end mul-end cast-delay cast-if2 sub-if5 returns returns-2)
+pub is_good_state_spec : {M : Type 1} → statement M
+is_good_state_spec = tie.close (tie.spec cast-end mul-end cast-delay cast-if2 sub-if5 returns returns-2)

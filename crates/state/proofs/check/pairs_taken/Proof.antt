@@ -12,5 +12,5 @@ returns : tie.Need-returns
 unfolding pairs_taken
 returns c = c.least.ensures
 
-pub pairs-taken-spec : {M : Type 1} → statement M
-pairs-taken-spec = tie.close (tie.spec least-requires returns)
+pub pairs_taken_spec : {M : Type 1} → statement M
+pairs_taken_spec = tie.close (tie.spec least-requires returns)

@@ -29,33 +29,33 @@ room y count out h k = rw (lt-ltb count (length out / 20) h, le-leb y.sample 922
 
 -- ---- what is returned
 
-returns : tie.Need-returns
+returns : tie.Need-returns-then-out-count
 unfolding put_of
-returns c = let a = c.before.args in rw (full a.self a.count a.out.now c.if1.true) refl
+returns c = let a = c.before.args in rw (full a.self a.count a.out-1.now c.if-out-count.true) refl
 
-returns-2 : tie.Need-returns-2
+returns-2 : tie.Need-returns-then-self-gt9223372036854775807
 unfolding put_of
 returns-2 c =
     let e = c.before.before in
     let a = e.before.args in
-    rw (late a.self a.count a.out.now e.if1.false c.if2.true) refl
+    rw (late a.self a.count a.out-1.now e.if-out-count.false c.if-self-gt9223372036854775807.true) refl
 
-places-requires : tie.Need-places-requires
+places-requires : tie.Need-places-symbol-requires
 places-requires c κs = search rules
 
-mul-write : tie.Need-overflow-mul-write
+mul-write : tie.Need-overflow_mul-count
 mul-write c = search rules
 
 write-requires : tie.Need-write-requires
 write-requires c κs = search rules
 
-add-result : tie.Need-overflow-add-result
+add-result : tie.Need-overflow_add-result
 add-result c = search rules
 
-same_length : tie.Need-same-length
+same_length : tie.Need-shape_of-out
 same_length c = search rules
 
-returns-3 : tie.Need-returns-3
+returns-3 : tie.Need-returns
 unfolding put_of
 returns-3 c =
     let w = c.before in
@@ -63,9 +63,9 @@ returns-3 c =
     let e = p.before.before.before in
     let a = e.before.args in
     let at : ℕ = 20 * a.count in
-    let out : List ℤ = a.out.now in
-    let written = w.write.ensures ∙ ap (λ (x : List ℤ). take at out ++ (x ++ drop (at + 20) out)) p.places.ensures in
-    rw (room a.self a.count out e.if1.false p.before.if2.false) (λ i. record { count = a.count + 1; output = written i })
+    let out : List ℤ = a.out-1.now in
+    let written = w.write.ensures ∙ ap (λ (x : List ℤ). take at out ++ (x ++ drop (at + 20) out)) p.places-symbol.ensures in
+    rw (room a.self a.count out e.if-out-count.false p.before.if-self-gt9223372036854775807.false) (λ i. record { count = a.count + 1; output = written i })
 
 pub put_spec : {M : Type 1} → statement M
 put_spec =

@@ -19,31 +19,31 @@ use Rattle.symbol.proofs.make.agc_error.Tie as tie
 
 -- ---- the power
 
-i-fits : (c : tie.After-struct-told) → SFits w16 c.before.before.args.zk.i
-i-fits c = record { sfits = search c.struct_told.given }
+i-fits : (c : tie.After-struct_told-1) → SFits w16 c.before.before.args.zk.i
+i-fits c = record { sfits = search c.struct_told-1.given }
 
-cast-power : tie.Need-overflow-cast-power
+cast-power : tie.Need-overflow_cast-power
 cast-power c = widens w64 tt (i-fits c)
 
-cast-power-2 : tie.Need-overflow-cast-power-2
+cast-power-2 : tie.Need-overflow_cast-power-2
 cast-power-2 c = widens w64 tt (i-fits c.before.before)
 
-mul_power : tie.Need-overflow-mul-power
+mul_power : tie.Need-overflow_mul-power
 mul_power c = let f = i-fits c.before.before in product-fits f f
 
-q-fits : (c : tie.After-struct-told3) → SFits w16 c.before.before.before.before.before.before.args.zk.q
-q-fits c = record { sfits = search c.struct-told3.given }
+q-fits : (c : tie.After-struct_told-3-1) → SFits w16 c.before.before.before.before.before.before.args.zk.q
+q-fits c = record { sfits = search c.struct_told-3-1.given }
 
-cast-power-3 : tie.Need-overflow-cast-power-3
+cast-power-3 : tie.Need-overflow_cast-power-3
 cast-power-3 c = widens w64 tt (q-fits c)
 
-cast-power-4 : tie.Need-overflow-cast-power-4
+cast-power-4 : tie.Need-overflow_cast-power-4
 cast-power-4 c = widens w64 tt (q-fits c.before.before)
 
-mul-power-2 : tie.Need-overflow-mul-power-2
+mul-power-2 : tie.Need-overflow_mul-power-2
 mul-power-2 c = let f = q-fits c.before.before in product-fits f f
 
-add-power : tie.Need-overflow-add-power
+add-power : tie.Need-overflow_add-power
 add-power c =
     let f = i-fits c.before.before.before.before.before.before in
     let g = q-fits c.before.before in
@@ -71,22 +71,22 @@ record Numbers (s : tie.Start) : Type 0 where
   q : SFits w16 s.args.zk.q
   target : Fits w32 s.args.p.agc_target
 
-numbers : (c : tie.After-struct-known5) → Numbers c.before.before.before.before.before.before.before.before.before
+numbers : (c : tie.After-struct_known-5-1) → Numbers c.before.before.before.before.before.before.before.before.before
 numbers c =
     let a = c.before in
     record {
       i = i-fits a.before.before.before.before.before.before;
       q = q-fits a.before.before;
-      target = c.struct-known5.given.1.1.1.1.1.1.1.1.1.1.1.1.0;
+      target = c.struct_known-5-1.given.1.1.1.1.1.1.1.1.1.1.1.1.0;
     }
 
-cast-wrap-i32 : tie.Need-overflow-cast-wrap-i32
+cast-wrap-i32 : tie.Need-overflow_cast-p
 cast-wrap-i32 c = search rules
 
-sub-wrap-i32 : tie.Need-overflow-sub-wrap-i32
+sub-wrap-i32 : tie.Need-overflow_sub-p
 sub-wrap-i32 c = let n = numbers c in subst (SFits w64) (sym (lack-is n.i n.q n.target)) (lack-fits n.i n.q n.target)
 
-wrap-i32-requires : tie.Need-wrap-i32-requires
+wrap-i32-requires : tie.Need-wrap_i32-requires
 wrap-i32-requires c κs = search rules
 
 returns : tie.Need-returns
@@ -97,8 +97,8 @@ returns c =
     held w32 r.result r.type-inv ∙ r.ensures
     ∙ ap wrap_i32 (ap (λ (z : ℤ). in64 z) (lack-is n.i n.q n.target) ∙ to_z-of_z (lack-fits n.i n.q n.target))
 
-pub agc-error-spec : {M : Type 1} → statement M
-agc-error-spec =
+pub agc_error_spec : {M : Type 1} → statement M
+agc_error_spec =
     tie.close
     (tie.spec
     cast-power

@@ -13,16 +13,16 @@ use Rattle.symbol.specs.Make.{fitted, amplified}
 use Rattle.symbol.proofs.make.amplify.Statement.{statement}
 use Rattle.symbol.proofs.make.amplify.Tie as tie
 
-cast-round-product : tie.Need-overflow-cast-round-product
+cast-round-product : tie.Need-overflow_cast-gain
 cast-round-product c = search rules
 
-round-product-requires : tie.Need-round-product-requires
+round-product-requires : tie.Need-round_product-requires
 round-product-requires c κs = search rules
 
-cast-round-product-2 : tie.Need-overflow-cast-round-product-2
+cast-round-product-2 : tie.Need-overflow_cast-gain-2
 cast-round-product-2 c = search rules
 
-round-product-requires-2 : tie.Need-round-product-requires-2
+round-product-requires-2 : tie.Need-round_product-requires-2
 round-product-requires-2 c κs = search rules
 
 fit-requires : tie.Need-fit-requires
@@ -38,14 +38,14 @@ returns c =
     let a = b.before.before in
     let s = a.before.before in
     let gain = gain-is s in
-    let x = held w16 s.args.x.i (search a.before.struct_told.given) in
-    let y = held w16 s.args.x.q (search b.before.struct-told2.given) in
-    let i = held w64 a.round-product.result a.round-product.type-inv ∙ a.round-product.ensures ∙ (λ t. round_shift (x t *ℤ gain t) 10) in
-    let q = held w64 b.round-product2.result b.round-product2.type-inv ∙ b.round-product2.ensures ∙ (λ t. round_shift (y t *ℤ gain t) 10) in
+    let x = held w16 s.args.x.i (search a.before.struct_told-1.given) in
+    let y = held w16 s.args.x.q (search b.before.struct_told-2-1.given) in
+    let i = held w64 a.round_product.result a.round_product.type-inv ∙ a.round_product.ensures ∙ (λ t. round_shift (x t *ℤ gain t) 10) in
+    let q = held w64 b.round_product-2.result b.round_product-2.type-inv ∙ b.round_product-2.ensures ∙ (λ t. round_shift (y t *ℤ gain t) 10) in
     c.fit.ensures ∙ (λ t. fitted (i t) (q t))
 
-pub amplify-spec : {M : Type 1} → statement M
-amplify-spec =
+pub amplify_spec : {M : Type 1} → statement M
+amplify_spec =
     tie.close
     (tie.spec
     cast-round-product

@@ -15,10 +15,10 @@ use Rattle.arith.proofs.Bits.{held}
 use Rattle.symbol.proofs.make.clip.Statement.{statement}
 use Rattle.symbol.proofs.make.clip.Tie as tie
 
-sat16-requires : tie.Need-sat16-requires
+sat16-requires : tie.Need-sat16-a-requires
 sat16-requires c κs = search rules
 
-sat16-requires-2 : tie.Need-sat16-requires-2
+sat16-requires-2 : tie.Need-sat16-b-requires
 sat16-requires-2 c κs = search rules
 
 -- a flag as a number
@@ -30,41 +30,41 @@ counts : (b : Bool) → bool_byte b ≡ cond b 1 0
 counts true = refl
 counts false = refl
 
-cast-t6 : tie.Need-overflow-cast-t6
+cast-t6 : tie.Need-overflow_cast-result
 cast-t6 c = search rules
 
-cast-t7 : tie.Need-overflow-cast-t7
+cast-t7 : tie.Need-overflow_cast-result-2
 cast-t7 c = search rules
 
-add-t8 : tie.Need-overflow-add-t8
+add-t8 : tie.Need-overflow_add-result
 add-t8 c =
     let b = c.before.before.before.before in
     let a = b.before in
-    record { fits = omega (arith, one-or-none a.sat16.result.changed, one-or-none b.sat162.result.changed) }
+    record { fits = omega (arith, one-or-none a.sat16-a.result.changed, one-or-none b.sat16-b.result.changed) }
 
 -- what is told of the two numbers as they were given
-module _ (c : tie.After-struct-known2) where
-  abbrev second : tie.After-sat162
+module _ (c : tie.After-struct_known-2-1) where
+  abbrev second : tie.After-sat16-b
   second = c.before.before.before.before
 
-  abbrev first : tie.After-sat16
+  abbrev first : tie.After-sat16-a
   first = second.before
 
-  first-is : first.sat16.result ≡ saturated_to first.before.args.i
-  first-is = first.sat16.ensures ∙ ap (λ (z : ℤ). saturated_to z) (to_z-of_z first.before.fits.i)
+  first-is : first.sat16-a.result ≡ saturated_to first.before.args.i
+  first-is = first.sat16-a.ensures ∙ ap (λ (z : ℤ). saturated_to z) (to_z-of_z first.before.ranges.i)
 
-  second_is : second.sat162.result ≡ saturated_to first.before.args.q
-  second_is = second.sat162.ensures ∙ ap (λ (z : ℤ). saturated_to z) (to_z-of_z first.before.fits.q)
+  second_is : second.sat16-b.result ≡ saturated_to first.before.args.q
+  second_is = second.sat16-b.ensures ∙ ap (λ (z : ℤ). saturated_to z) (to_z-of_z first.before.ranges.q)
 
 returns : tie.Need-returns
 returns c =
     let a = first-is c in
     let b = second_is c in
-    let i = held w16 (first c).sat16.result.value (search c.before.before.before.struct_told.given) ∙ ap (λ (r : Saturated). r.value) a in
-    let q = held w16 (second c).sat162.result.value (search c.before.before.struct-told2.given) ∙ ap (λ (r : Saturated). r.value) b in
-    let m = counts (first c).sat16.result.changed ∙ ap (λ (r : Saturated). cond r.changed 1 0) a in
-    let n = counts (second c).sat162.result.changed ∙ ap (λ (r : Saturated). cond r.changed 1 0) b in
+    let i = held w16 (first c).sat16-a.result.value (search c.before.before.before.struct_told-1.given) ∙ ap (λ (r : Saturated). r.value) a in
+    let q = held w16 (second c).sat16-b.result.value (search c.before.before.struct_told-2-1.given) ∙ ap (λ (r : Saturated). r.value) b in
+    let m = counts (first c).sat16-a.result.changed ∙ ap (λ (r : Saturated). cond r.changed 1 0) a in
+    let n = counts (second c).sat16-b.result.changed ∙ ap (λ (r : Saturated). cond r.changed 1 0) b in
     λ t. record { output = record { i = i t; q = q t }; clips = m t + n t }
 
-pub clip-spec : {M : Type 1} → statement M
-clip-spec = tie.close (tie.spec sat16-requires sat16-requires-2 cast-t6 cast-t7 add-t8 returns)
+pub clip_spec : {M : Type 1} → statement M
+clip_spec = tie.close (tie.spec sat16-requires sat16-requires-2 cast-t6 cast-t7 add-t8 returns)

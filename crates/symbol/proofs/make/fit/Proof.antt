@@ -15,10 +15,10 @@ use Rattle.symbol.specs.Make.{fitted}
 use Rattle.symbol.proofs.make.fit.Statement.{statement}
 use Rattle.symbol.proofs.make.fit.Tie as tie
 
-fits-i16-requires : tie.Need-fits-i16-requires
+fits-i16-requires : tie.Need-fits_i16-requires
 fits-i16-requires c κs = search rules
 
-fits-i16-requires-2 : tie.Need-fits-i16-requires-2
+fits-i16-requires-2 : tie.Need-fits_i16-requires-then-fits_i16
 fits-i16-requires-2 c κs = search rules
 
 -- what the two tests say where both hold
@@ -29,21 +29,21 @@ holds {r} {z} {v} told e passed = go (sat16_changes v) refl
     go true k = absurd (true≢false (sym passed ∙ told ∙ ap (λ (x : ℤ). not (sat16_changes x)) e ∙ ap not k))
     go false k = k
 
-module _ (c : tie.Then2) where
-  abbrev second : tie.After-fits-i162
+module _ (c : tie.Then-fits_i16-2) where
+  abbrev second : tie.After-fits_i16-then-fits_i16
   second = c.before
 
-  abbrev first : tie.After-fits-i16
+  abbrev first : tie.After-fits_i16
   first = second.before.before
 
   abbrev start : tie.Start
   start = first.before
 
   i-holds : sat16_changes start.args.i ≡ false
-  i-holds = holds first.fits-i16.ensures (to_z-of_z start.fits.i) second.before.if1.taken
+  i-holds = holds first.fits_i16.ensures (to_z-of_z start.ranges.i) second.before.if1.taken
 
   q-holds : sat16_changes start.args.q ≡ false
-  q-holds = holds second.fits-i162.ensures (to_z-of_z start.fits.q) c.if2.true
+  q-holds = holds second.fits_i16-then-fits_i16.ensures (to_z-of_z start.ranges.q) c.if-fits_i16-2.true
 
   i-fits : SFits w16 start.args.i
   i-fits = subst (SFits w16) (unchanged start.args.i i-holds) (sat16-fits start.args.i)
@@ -51,13 +51,13 @@ module _ (c : tie.Then2) where
   q-fits : SFits w16 start.args.q
   q-fits = subst (SFits w16) (unchanged start.args.q q-holds) (sat16-fits start.args.q)
 
-cast-t5 : tie.Need-overflow-cast-t5
+cast-t5 : tie.Need-overflow_cast-result
 cast-t5 c = narrows tt (i-fits c)
 
-cast-t6 : tie.Need-overflow-cast-t6
+cast-t6 : tie.Need-overflow_cast-result-then-fits_i16-2
 cast-t6 c = narrows tt (q-fits c)
 
-returns : tie.Need-returns
+returns : tie.Need-returns-then-fits_i16-2
 returns c =
     let i = narrowed tt (i-fits c) ∙ sym (unchanged (start c).args.i (i-holds c)) in
     let q = narrowed tt (q-fits c) ∙ sym (unchanged (start c).args.q (q-holds c)) in
@@ -66,7 +66,7 @@ returns c =
 clip-requires : tie.Need-clip-requires
 clip-requires c κs = search rules
 
-returns-2 : tie.Need-returns-2
+returns-2 : tie.Need-returns
 returns-2 c = let f = c.before.before.before.ranges in c.clip.ensures ∙ (λ t. fitted (to_z-of_z f.i t) (to_z-of_z f.q t))
 
 pub fit_spec : {M : Type 1} → statement M

@@ -9,10 +9,10 @@ use Rattle.symbol.specs.Make.{fitted, output_of}
 use Rattle.symbol.proofs.make.output_of.Statement.{statement}
 use Rattle.symbol.proofs.make.output_of.Tie as tie
 
-round-shift-requires : tie.Need-round-shift-requires
+round-shift-requires : tie.Need-round_shift-requires
 round-shift-requires c κs = search rules
 
-round-shift-requires-2 : tie.Need-round-shift-requires-2
+round-shift-requires-2 : tie.Need-round_shift-requires-2
 round-shift-requires-2 c κs = search rules
 
 fit-requires : tie.Need-fit-requires
@@ -24,11 +24,11 @@ returns c =
     let b = c.before in
     let a = b.before.before in
     let x = a.before.before.args.s in
-    let i = held w64 a.round-shift.result a.round-shift.type-inv ∙ a.round-shift.ensures
-    ∙ ap (λ (z : ℤ). round_shift z 14) (held w64 x.i (search a.before.struct_told.given)) in
-    let q = held w64 b.round-shift2.result b.round-shift2.type-inv ∙ b.round-shift2.ensures
-    ∙ ap (λ (z : ℤ). round_shift z 14) (held w64 x.q (search b.before.struct-told2.given)) in
+    let i = held w64 a.round_shift.result a.round_shift.type-inv ∙ a.round_shift.ensures
+    ∙ ap (λ (z : ℤ). round_shift z 14) (held w64 x.i (search a.before.struct_told-1.given)) in
+    let q = held w64 b.round_shift-2.result b.round_shift-2.type-inv ∙ b.round_shift-2.ensures
+    ∙ ap (λ (z : ℤ). round_shift z 14) (held w64 x.q (search b.before.struct_told-2-1.given)) in
     c.fit.ensures ∙ (λ t. fitted (i t) (q t))
 
-pub output-of-spec : {M : Type 1} → statement M
-output-of-spec = tie.close (tie.spec round-shift-requires round-shift-requires-2 fit-requires returns)
+pub output_of_spec : {M : Type 1} → statement M
+output_of_spec = tie.close (tie.spec round-shift-requires round-shift-requires-2 fit-requires returns)

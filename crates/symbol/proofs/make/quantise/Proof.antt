@@ -78,35 +78,35 @@ any_width z j f = go (leb j 15) refl
 
 -- ---- the calls
 
-below-sign-requires : tie.Need-below-sign-requires
+below-sign-requires : tie.Need-below_sign-requires
 below-sign-requires c κs = search rules
 
 -- the bits that the code shifts by
-few : (c : tie.After-below-sign) → c.below-sign.result ≤ 15
-few c = omega (arith, c.below-sign.ensures)
+few : (c : tie.After-below_sign) → c.below_sign.result ≤ 15
+few c = omega (arith, c.below_sign.ensures)
 
-cast-end : tie.Need-overflow-cast-end
+cast-end : tie.Need-overflow_cast-end
 cast-end c = search rules
 
-shl-end : tie.Need-overflow-shl-end
+shl-end : tie.Need-overflow_shl-end
 shl-end c = search rules
 
-cast-round-product : tie.Need-overflow-cast-round-product
+cast-round-product : tie.Need-overflow_cast-p
 cast-round-product c = search rules
 
-round-product-requires : tie.Need-round-product-requires
+round-product-requires : tie.Need-round_product-requires
 round-product-requires c κs = search rules
 
-sub-clamp : tie.Need-overflow-sub-clamp
+sub-clamp : tie.Need-overflow_sub-end
 sub-clamp c =
     let b = c.before.before in
-    let j = b.below-sign.result in
+    let j = b.below_sign.result in
     simp (end_is j (few b), +ℤ_idl) (sfits_widen tt (low_fits j (few b)))
 
-sub-clamp-2 : tie.Need-overflow-sub-clamp-2
+sub-clamp-2 : tie.Need-overflow_sub-end-2
 sub-clamp-2 c =
     let b = c.before.before in
-    let j = b.below-sign.result in
+    let j = b.below_sign.result in
     simp (end_is j (few b)) (simp (high_is j (few b)) (sfits_widen tt (high_fits j (few b))))
 
 clamp-requires : tie.Need-clamp-requires
@@ -116,13 +116,13 @@ clamp-requires c κs = search rules
 clamped : (c : tie.After-clamp)
     → let b = c.before.before.before in
     let a = b.before.args in
-    let j = b.below-sign.result in
+    let j = b.below_sign.result in
     c.clamp.result ≡ clamp_z (round_shift a.v a.p.q_shift) (neg_ℤ (pos (2 ^ j))) (pos (2 ^ j - 1))
 unfolding one
 clamped c =
     let r = c.before.round-product in
     let b = c.before.before.before in
-    let j = b.below-sign.result in
+    let j = b.below_sign.result in
     let h = few b in
     let v : ℤ = b.before.args.v in
     let shift : ℕ = b.before.args.p.q_shift in
@@ -134,9 +134,9 @@ clamped c =
     simp rounded at told
 
 fits : (c : tie.After-clamp) → SFits w16 c.clamp.result
-fits c = let b = c.before.before.before in rw (clamped c) (clamped-fits b.below-sign.result (few b) _)
+fits c = let b = c.before.before.before in rw (clamped c) (clamped-fits b.below_sign.result (few b) _)
 
-cast-result : tie.Need-overflow-cast-result
+cast-result : tie.Need-overflow_cast-result
 cast-result c = narrows tt (fits c)
 
 returns : tie.Need-returns
@@ -145,11 +145,11 @@ returns c =
     let b = c.before.before.before in
     let a = b.before.args in
     let z : ℤ = round_shift a.v a.p.q_shift in
-    narrowed tt (fits c) ∙ clamped c ∙ ap (λ (j : ℕ). clamp_z z (neg_ℤ (pos (2 ^ j))) (pos (2 ^ j - 1))) b.below-sign.ensures
+    narrowed tt (fits c) ∙ clamped c ∙ ap (λ (j : ℕ). clamp_z z (neg_ℤ (pos (2 ^ j))) (pos (2 ^ j - 1))) b.below_sign.ensures
     ∙ any_width z (a.p.bits - 1) (round-fits a.p.q_shift b.before.ranges.v)
 
-pub quantise-spec : {M : Type 1} → statement M
-quantise-spec =
+pub quantise_spec : {M : Type 1} → statement M
+quantise_spec =
     tie.close
     (tie.spec
     below-sign-requires

@@ -21,50 +21,50 @@ use Rattle.symbol.proofs.make.timing_error.Tie as tie
 
 -- ---- in phase
 
-zi-fits : (c : tie.After-struct-told) → SFits w16 c.before.before.args.z.i
-zi-fits c = record { sfits = search c.struct_told.given }
+zi-fits : (c : tie.After-struct_told-1) → SFits w16 c.before.before.args.z.i
+zi-fits c = record { sfits = search c.struct_told-1.given }
 
-cast-product : tie.Need-overflow-cast-product
+cast-product : tie.Need-overflow_cast-product
 cast-product c = widens w64 tt (zi-fits c)
 
-dzi-fits : (c : tie.After-struct-told2) → SFits w16 c.before.before.before.before.args.dz.i
-dzi-fits c = record { sfits = search c.struct-told2.given }
+dzi-fits : (c : tie.After-struct_told-2-1) → SFits w16 c.before.before.before.before.args.dz.i
+dzi-fits c = record { sfits = search c.struct_told-2-1.given }
 
-cast-product-2 : tie.Need-overflow-cast-product-2
+cast-product-2 : tie.Need-overflow_cast-product-2
 cast-product-2 c = widens w64 tt (dzi-fits c)
 
-mul-product : tie.Need-overflow-mul-product
+mul-product : tie.Need-overflow_mul-product
 mul-product c = product-fits (zi-fits c.before.before) (dzi-fits c)
 
 -- ---- in quadrature
 
-zq-fits : (c : tie.After-struct-told3) → SFits w16 c.before.before.before.before.before.before.args.z.q
-zq-fits c = record { sfits = search c.struct-told3.given }
+zq-fits : (c : tie.After-struct_told-3-1) → SFits w16 c.before.before.before.before.before.before.args.z.q
+zq-fits c = record { sfits = search c.struct_told-3-1.given }
 
-cast-product-3 : tie.Need-overflow-cast-product-3
+cast-product-3 : tie.Need-overflow_cast-product-3
 cast-product-3 c = widens w64 tt (zq-fits c)
 
-dzq-fits : (c : tie.After-struct-told4) → SFits w16 c.before.before.before.before.before.before.before.before.args.dz.q
-dzq-fits c = record { sfits = search c.struct-told4.given }
+dzq-fits : (c : tie.After-struct_told-4-1) → SFits w16 c.before.before.before.before.before.before.before.before.args.dz.q
+dzq-fits c = record { sfits = search c.struct_told-4-1.given }
 
-cast-product-4 : tie.Need-overflow-cast-product-4
+cast-product-4 : tie.Need-overflow_cast-product-4
 cast-product-4 c = widens w64 tt (dzq-fits c)
 
-mul-product-2 : tie.Need-overflow-mul-product-2
+mul-product-2 : tie.Need-overflow_mul-product-2
 mul-product-2 c = product-fits (zq-fits c.before.before) (dzq-fits c)
 
 -- ---- the sum, shifted and clamped
 
-add-product : tie.Need-overflow-add-product
+add-product : tie.Need-overflow_add-product
 add-product c =
     let q = c.before.before in
     let d = q.before.before in
     sum_fits (zi-fits d.before.before) (dzi-fits d) (zq-fits q) (dzq-fits c)
 
-cast-shift-right : tie.Need-overflow-cast-shift-right
+cast-shift-right : tie.Need-overflow_cast-p
 cast-shift-right c = search rules
 
-shift-right-requires : tie.Need-shift-right-requires
+shift-right-requires : tie.Need-shift_right-requires
 shift-right-requires c κs = search rules
 
 clamp-requires : tie.Need-clamp-requires
@@ -96,14 +96,14 @@ error-fits p z dz =
 fits : (c : tie.After-clamp) → SFits w32 c.clamp.result
 fits c = rw (is c) (error-fits _ _ _)
 
-cast-result : tie.Need-overflow-cast-result
+cast-result : tie.Need-overflow_cast-result
 cast-result c = narrows tt (fits c)
 
 returns : tie.Need-returns
 returns c = narrowed tt (fits c) ∙ is c
 
-pub timing-error-spec : {M : Type 1} → statement M
-timing-error-spec =
+pub timing_error_spec : {M : Type 1} → statement M
+timing_error_spec =
     tie.close
     (tie.spec
     cast-product

@@ -26,65 +26,65 @@ widens-16 z h = widens {w = w16} w64 {z = z} tt (record { sfits = h })
 widens-32 : (z : ℤ) → mag z < 2147483648 → SFits w64 (to_z w32 (of_z w32 z))
 widens-32 z h = widens {w = w32} w64 {z = z} tt (record { sfits = h })
 
-cast-t9 : tie.Need-overflow-cast-t9
+cast-t9 : tie.Need-overflow_cast-result
 cast-t9 c = search rules
 
-cast-t10 : tie.Need-overflow-cast-t10
+cast-t10 : tie.Need-overflow_cast-result-2
 cast-t10 c = search rules
 
-cast-t11 : tie.Need-overflow-cast-t11
+cast-t11 : tie.Need-overflow_cast-result-3
 cast-t11 c = search widens-16
 
-cast-t12 : tie.Need-overflow-cast-t12
+cast-t12 : tie.Need-overflow_cast-result-4
 cast-t12 c = search widens-16
 
-cast-t13 : tie.Need-overflow-cast-t13
+cast-t13 : tie.Need-overflow_cast-result-5
 cast-t13 c = search widens-16
 
-cast-t14 : tie.Need-overflow-cast-t14
+cast-t14 : tie.Need-overflow_cast-result-6
 cast-t14 c = search widens-16
 
-cast-t15 : tie.Need-overflow-cast-t15
+cast-t15 : tie.Need-overflow_cast-result-7
 cast-t15 c = search widens-16
 
-cast-t16 : tie.Need-overflow-cast-t16
+cast-t16 : tie.Need-overflow_cast-result-8
 cast-t16 c = search widens-16
 
-cast-t17 : tie.Need-overflow-cast-t17
+cast-t17 : tie.Need-overflow_cast-result-9
 cast-t17 c = search rules
 
-cast-t18 : tie.Need-overflow-cast-t18
+cast-t18 : tie.Need-overflow_cast-result-10
 cast-t18 c = search rules
 
-cast-t19 : tie.Need-overflow-cast-t19
+cast-t19 : tie.Need-overflow_cast-result-11
 cast-t19 c = search widens-16
 
-cast-t20 : tie.Need-overflow-cast-t20
+cast-t20 : tie.Need-overflow_cast-result-12
 cast-t20 c = search widens-16
 
-cast-t21 : tie.Need-overflow-cast-t21
+cast-t21 : tie.Need-overflow_cast-result-13
 cast-t21 c = search widens-16
 
-cast-t22 : tie.Need-overflow-cast-t22
+cast-t22 : tie.Need-overflow_cast-result-14
 cast-t22 c = search widens-16
 
-cast-t23 : tie.Need-overflow-cast-t23
+cast-t23 : tie.Need-overflow_cast-result-15
 cast-t23 c = search widens-16
 
-cast-t24 : tie.Need-overflow-cast-t24
+cast-t24 : tie.Need-overflow_cast-result-16
 cast-t24 c = search widens-16
 
-cast-t25 : tie.Need-overflow-cast-t25
+cast-t25 : tie.Need-overflow_cast-result-17
 cast-t25 c = search widens-16
 
-cast-t26 : tie.Need-overflow-cast-t26
+cast-t26 : tie.Need-overflow_cast-result-18
 cast-t26 c = search widens-16
 
-cast-t27 : tie.Need-overflow-cast-t27
-cast-t27 c = search (widens-32, c.struct-told15.given.1.1.1.1.1.1.1.1.1.1.1)
+cast-t27 : tie.Need-overflow_cast-result-19
+cast-t27 c = search (widens-32, c.struct_told-15-1.given.1.1.1.1.1.1.1.1.1.1.1)
 
-cast-t28 : tie.Need-overflow-cast-t28
-cast-t28 c = search (widens-32, c.struct-told16.given.1.1.1.1.1.1.1.1.1.1.1)
+cast-t28 : tie.Need-overflow_cast-result-20
+cast-t28 c = search (widens-32, c.struct_told-16-1.given.1.1.1.1.1.1.1.1.1.1.1)
 
 -- ---- the places
 
@@ -133,15 +133,15 @@ returns c =
     let second = c.before.before.before.before.before.before.before.before.before.before.before.before.before.before in
     let first = second.before.before.before.before.before.before.before.before.before.before.before.before.before.before in
     let begin = first.before.before.before.before.before.before.before.before.before.before.before.before.before.before.before in
-    let k = c.before.struct-known20.given in
-    let y = c.struct-told16.given.1.1 in
+    let k = c.before.struct_known-20-1.given in
+    let y = c.struct_told-16-1.given.1.1 in
     let z = y.1.1.1.1.1 in
     let e = z.1.1.1.1 in
     read _ (search y.0) (search y.1.0) (search y.1.1.0) (search z.0) (search z.1.0) (search z.1.1.0) (search z.1.1.1.0)
     (search e.0) (search e.1.0) begin.requires k.1.0 k.1.1.1.1.1.0 k.1.1.1.1.1.1.0
 
-pub places-spec : {M : Type 1} → statement M
-places-spec =
+pub places_spec : {M : Type 1} → statement M
+places_spec =
     tie.close
     (tie.spec
     cast-t9

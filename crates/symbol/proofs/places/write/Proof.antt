@@ -14,37 +14,37 @@ use Rattle.arith.proofs.Bits.{held}
 use Rattle.symbol.proofs.places.write.Statement.{statement}
 use Rattle.symbol.proofs.places.write.Tie as tie
 
-abbrev invariant-loop : tie.invariant-loop
+abbrev invariant-loop : tie.invariant-loop-j
 invariant-loop out₀ w symbol j₀ out j = (j ≤ 20) × (length out ≡ length out₀) × (out ≡ paste out₀ w symbol j)
 
-abbrev decreases-loop : tie.decreases-loop
+abbrev decreases-loop : tie.decreases-loop-j
 decreases-loop out₀ w symbol j₀ out j = 20 - j
 
-loop-holds : tie.Need-loop-init invariant-loop decreases-loop
+loop-holds : tie.Need-loop-j-init invariant-loop decreases-loop
 loop-holds c = (search rules, refl, paste-zero c.args.out.now c.args.w c.args.symbol.now)
 
-mul-v : tie.Need-overflow-mul-v invariant-loop decreases-loop
+mul-v : tie.Need-offset_bounds-symbol-j invariant-loop decreases-loop
 mul-v c = search rules
 
-element-copy-out-v : tie.Need-element-copy-out-v invariant-loop decreases-loop
+element-copy-out-v : tie.Need-bounds-symbol-j invariant-loop decreases-loop
 element-copy-out-v c = omega arith
 
-add-v : tie.Need-overflow-add-v invariant-loop decreases-loop
+add-v : tie.Need-overflow_add-v invariant-loop decreases-loop
 add-v c = omega arith
 
-mul-v-2 : tie.Need-overflow-mul-v-2 invariant-loop decreases-loop
+mul-v-2 : tie.Need-offset_bounds-out-w invariant-loop decreases-loop
 mul-v-2 c = omega arith
 
-slice-set-from-v : tie.Need-slice-set-from-v invariant-loop decreases-loop
+slice-set-from-v : tie.Need-bounds-out-w invariant-loop decreases-loop
 slice-set-from-v c = omega arith
 
-add-j : tie.Need-overflow-add-j invariant-loop decreases-loop
+add-j : tie.Need-overflow_add-j invariant-loop decreases-loop
 add-j c = search rules
 
-loop-less : tie.Need-loop-smaller invariant-loop decreases-loop
+loop-less : tie.Need-loop-j-smaller invariant-loop decreases-loop
 loop-less c = search rules
 
-loop-again : tie.Need-loop-preserved invariant-loop decreases-loop
+loop-again : tie.Need-loop-j-preserved invariant-loop decreases-loop
 loop-again c =
     let a = c.before.before.before.args in
     let l = c.before.before.loop in
@@ -52,11 +52,11 @@ loop-again c =
     let inside : a.w + l.j < length a.out.now = omega arith in
     let one : l.j < length y = omega arith in
     let v = get_or y l.j (pos 0) in
-    simp (held w64 v c.v.given)
+    simp (held w64 v c.v-1.given)
     (omega arith, length-set l.out (a.w + l.j) v ∙ l.invariant.1, rw (l.invariant.2, paste-suc a.out.now a.w y l.j (pos 0), add-one))
 
-same_length : tie.Need-same-length invariant-loop decreases-loop
-same_length c = c.before.loop.invariant.1
+same_length : tie.Need-shape_of-out invariant-loop decreases-loop
+same_length c = c.before.loop-j.invariant.1
 
 returns : tie.Need-returns invariant-loop decreases-loop
 returns c =

@@ -4,82 +4,82 @@ use Rattle.std.proofs.Common.{◌≡◌, length, ◌∙◌, arith, rules}
 use Rattle.symbols.proofs.run.run.Statement.{statement}
 use Rattle.symbols.proofs.run.run.Tie as tie
 
-abbrev invariant-loop : tie.invariant-loop
+abbrev invariant-loop : tie.invariant-loop-turns
 invariant-loop h g k bytes₀ out₀ values₀ places₀ params r₀ turns₀ bytes out values places r turns =
     (length bytes ≡ length bytes₀) × (length out ≡ length out₀) × (length values ≡ 4096) × (length places ≡ 20480)
 
-abbrev decreases-loop : tie.decreases-loop
+abbrev decreases-loop : tie.decreases-loop-turns
 decreases-loop h g k bytes₀ out₀ values₀ places₀ params r₀ turns₀ bytes out values places r turns = turns
 
-new-requires : tie.Need-new-requires invariant-loop decreases-loop
+new-requires : tie.Need-new-r-requires invariant-loop decreases-loop
 new-requires c κs = search rules
 
-loop-holds : tie.Need-loop-init invariant-loop decreases-loop
+loop-holds : tie.Need-loop-turns-init invariant-loop decreases-loop
 loop-holds c = search rules
 
-goes-on-requires : tie.Need-goes-on-requires invariant-loop decreases-loop
+goes-on-requires : tie.Need-goes_on-requires invariant-loop decreases-loop
 goes-on-requires c κs = search rules
 
-slice-aggregate-block-of : tie.Need-slice-aggregate-block-of invariant-loop decreases-loop
+slice-aggregate-block-of : tie.Need-slice_bounds-block_of-end invariant-loop decreases-loop
 slice-aggregate-block-of c = search rules
 
-block-of-requires : tie.Need-block-of-requires invariant-loop decreases-loop
+block-of-requires : tie.Need-block_of-block-requires invariant-loop decreases-loop
 block-of-requires c κs = search rules
 
-least-requires : tie.Need-least-requires invariant-loop decreases-loop
+least-requires : tie.Need-least-used-requires invariant-loop decreases-loop
 least-requires c κs = search rules
 
-sub-with-pairs : tie.Need-overflow-sub-with-pairs invariant-loop decreases-loop
+sub-with-pairs : tie.Need-slice_bounds-with_pairs-count invariant-loop decreases-loop
 sub-with-pairs c = search rules
 
-part-with-pairs-start : tie.Need-slice-bounds-with-pairs-start invariant-loop decreases-loop
+part-with-pairs-start : tie.Need-slice_bounds-with_pairs-start invariant-loop decreases-loop
 part-with-pairs-start c = search rules
 
-part-with-pairs-end : tie.Need-slice-bounds-with-pairs-end invariant-loop decreases-loop
+part-with-pairs-end : tie.Need-slice_bounds-with_pairs-end invariant-loop decreases-loop
 part-with-pairs-end c = search rules
 
-slice-aggregate-with-pairs : tie.Need-slice-aggregate-with-pairs invariant-loop decreases-loop
+slice-aggregate-with-pairs : tie.Need-slice_bounds-with_pairs-end-in-loop-turns invariant-loop decreases-loop
 slice-aggregate-with-pairs c = search rules
 
-with-pairs-requires : tie.Need-with-pairs-requires invariant-loop decreases-loop
+with-pairs-requires : tie.Need-with_pairs-r-requires invariant-loop decreases-loop
 with-pairs-requires c κs = search rules
 
-behind-requires : tie.Need-behind-requires invariant-loop decreases-loop
+behind-requires : tie.Need-behind-r-requires invariant-loop decreases-loop
 behind-requires c κs = search rules
 
 -- a turn
-module _ (c : tie.After-behind invariant-loop decreases-loop) where
-  abbrev took : tie.After-with-pairs invariant-loop decreases-loop
+module _ (c : tie.After-behind-r invariant-loop decreases-loop) where
+  abbrev took : tie.After-with_pairs-r invariant-loop decreases-loop
   took = c.before.before.before.before
 
-  abbrev read : tie.After-block-of invariant-loop decreases-loop
+  abbrev read : tie.After-block_of-block invariant-loop decreases-loop
   read = took.before.before.before.before.before.before.before.before.before
 
-  abbrev turn : tie.In-loop invariant-loop decreases-loop
+  abbrev turn : tie.In-loop-turns invariant-loop decreases-loop
   turn = read.before.before.before.before.before
 
-sub-turns : tie.Need-overflow-sub-turns invariant-loop decreases-loop
-sub-turns c = (turn c).loop-test.true
+sub-turns : tie.Need-overflow_sub-turns invariant-loop decreases-loop
+sub-turns c = (turn c).loop-turns-test.true
 
-loop-less : tie.Need-loop-smaller invariant-loop decreases-loop
-loop-less c = omega (arith, (turn c).loop-test.true)
+loop-less : tie.Need-loop-turns-smaller invariant-loop decreases-loop
+loop-less c = omega (arith, (turn c).loop-turns-test.true)
 
-loop-again : tie.Need-loop-preserved invariant-loop decreases-loop
+loop-again : tie.Need-loop-turns-preserved invariant-loop decreases-loop
 loop-again c =
-    let inv = (turn c).before.loop.invariant in (
+    let inv = (turn c).before.loop-turns.invariant in (
       (read c).Block-of.auto.1.1.1.0 ∙ inv.0,
-      (took c).with-pairs.auto.1.1.1.1.1.1.1.0 ∙ inv.1,
+      (took c).with_pairs-r.auto.1.1.1.1.1.1.1.0 ∙ inv.1,
       (read c).Block-of.auto.1.1.0 ∙ inv.2,
-      (took c).with-pairs.auto.1.1.1.1.1.1.0 ∙ inv.3,
+      (took c).with_pairs-r.auto.1.1.1.1.1.1.0 ∙ inv.3,
     )
 
 ended-requires : tie.Need-ended-requires invariant-loop decreases-loop
 ended-requires c κs = search rules
 
-same_length : tie.Need-same-length invariant-loop decreases-loop
+same_length : tie.Need-shape_of-bytes invariant-loop decreases-loop
 same_length c = search rules
 
-same-length-2 : tie.Need-same-length-2 invariant-loop decreases-loop
+same-length-2 : tie.Need-shape_of-out invariant-loop decreases-loop
 same-length-2 c = search rules
 
 returns : tie.Need-returns invariant-loop decreases-loop

@@ -14,29 +14,29 @@ use Rattle.text.proofs.fields.above_zero.Tie as tie
 bad-requires : tie.Need-bad-requires
 bad-requires c κs = search rules
 
-returns : tie.Need-returns
+returns : tie.Need-returns-then-not-d
 returns c =
     let a = c.before.before.before.args in
-    c.bad.ensures ∙ sym (rw (not-true a.d.formed c.before.if1.true) refl)
+    c.bad.ensures ∙ sym (rw (not-true a.d.formed c.before.if-not-d.true) refl)
 
-bad-requires-2 : tie.Need-bad-requires-2
+bad-requires-2 : tie.Need-bad-requires-then-up-d
 bad-requires-2 c κs = search rules
 
-returns-2 : tie.Need-returns-2
+returns-2 : tie.Need-returns-then-up-d
 returns-2 c =
     let a = c.before.before.before.before.before.args in
-    c.bad2.ensures ∙ sym (rw (not-false a.d.formed c.before.before.before.if1.false, lt-ltb a.up a.d.size c.before.if2.true) refl)
+    c.bad-then-up-d.ensures ∙ sym (rw (not-false a.d.formed c.before.before.before.if-not-d.false, lt-ltb a.up a.d.size c.before.if-up-d.true) refl)
 
-cast-t4 : tie.Need-overflow-cast-t4
+cast-t4 : tie.Need-overflow_cast-result
 cast-t4 c = search rules
 
-returns-3 : tie.Need-returns-3
+returns-3 : tie.Need-returns
 returns-3 c =
     let a = c.before.before.before.before.before.args in
     let l : a.d.size < 2 ^ 63 = omega arith in
     ap holds (to_z_pos w64 l) ∙ sym
-    (rw (not-false a.d.formed c.before.before.before.if1.false, le-ltb a.up a.d.size c.before.if2.false) refl)
+    (rw (not-false a.d.formed c.before.before.before.if-not-d.false, le-ltb a.up a.d.size c.before.if-up-d.false) refl)
 
-pub above-zero-spec : {M : Type 1} → statement M
-above-zero-spec =
+pub above_zero_spec : {M : Type 1} → statement M
+above_zero_spec =
     tie.close (tie.spec bad-requires returns bad-requires-2 returns-2 cast-t4 returns-3)

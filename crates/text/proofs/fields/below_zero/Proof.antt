@@ -28,57 +28,57 @@ fits-minus (suc n) h k = record { sfits = omega arith }
 bad-requires : tie.Need-bad-requires
 bad-requires c κs = search rules
 
-returns : tie.Need-returns
+returns : tie.Need-returns-then-not-d
 returns c =
     let a = c.before.before.before.args in
-    c.bad.ensures ∙ sym (rw (not-true a.d.formed c.before.if1.true) refl)
+    c.bad.ensures ∙ sym (rw (not-true a.d.formed c.before.if-not-d.true) refl)
 
-bad-requires-2 : tie.Need-bad-requires-2
+bad-requires-2 : tie.Need-bad-requires-then-d-eq0
 bad-requires-2 c κs = search rules
 
-returns-2 : tie.Need-returns-2
+returns-2 : tie.Need-returns-then-d-eq0
 returns-2 c =
     let a = c.before.before.before.before.before.args in
-    c.bad2.ensures ∙ sym (rw (not-false a.d.formed c.before.before.before.if1.false, eq-eqb a.d.size 0 c.before.if2.true) refl)
+    c.bad-then-d-eq0.ensures ∙ sym (rw (not-false a.d.formed c.before.before.before.if-not-d.false, eq-eqb a.d.size 0 c.before.if-d-eq0.true) refl)
 
-bad-requires-3 : tie.Need-bad-requires-3
+bad-requires-3 : tie.Need-bad-requires-then-down-d
 bad-requires-3 c κs = search rules
 
-returns-3 : tie.Need-returns-3
+returns-3 : tie.Need-returns-then-down-d
 returns-3 c =
     let e = c.before.before.before in
     let a = e.before.before.before.before.args in
-    c.bad3.ensures
+    c.bad-then-down-d.ensures
     ∙ sym (rw (
-      not-false a.d.formed e.before.before.if1.false,
-      ne_eqb a.d.size 0 e.if2.false,
-      lt-ltb a.down a.d.size c.before.if3.true,
+      not-false a.d.formed e.before.before.if-not-d.false,
+      ne_eqb a.d.size 0 e.if-d-eq0.false,
+      lt-ltb a.down a.d.size c.before.if-down-d.true,
     ) refl)
 
-sub-t4 : tie.Need-overflow-sub-t4
+sub-t4 : tie.Need-overflow_sub-result
 sub-t4 c = search rules
 
-cast-t5 : tie.Need-overflow-cast-t5
+cast-t5 : tie.Need-overflow_cast-result
 cast-t5 c = search rules
 
-sub-t6 : tie.Need-overflow-sub-t6
+sub-t6 : tie.Need-overflow_sub-result-2
 sub-t6 c =
     let n = c.before.before.before.before.before.before.before.args.d.size in
     rw (less n (omega arith) (omega arith)) (fits-minus n (omega arith) (omega arith))
 
-returns-4 : tie.Need-returns-4
+returns-4 : tie.Need-returns
 returns-4 c =
     let e = c.before.before.before in
     let a = e.before.before.before.before.args in
     ap holds (to_z-of_z (sub-t6 c) ∙ less a.d.size (omega arith) (omega arith))
     ∙ sym (rw (
-      not-false a.d.formed e.before.before.if1.false,
-      ne_eqb a.d.size 0 e.if2.false,
-      le-ltb a.down a.d.size c.before.if3.false,
+      not-false a.d.formed e.before.before.if-not-d.false,
+      ne_eqb a.d.size 0 e.if-d-eq0.false,
+      le-ltb a.down a.d.size c.before.if-down-d.false,
     ) refl)
 
-pub below-zero-spec : {M : Type 1} → statement M
-below-zero-spec =
+pub below_zero_spec : {M : Type 1} → statement M
+below_zero_spec =
     tie.close
     (tie.spec
     bad-requires

@@ -7,7 +7,7 @@ use Rattle.print.specs.Number.{magnitude_of}
 use Rattle.text.proofs.fields.down_of.Statement.{statement}
 use Rattle.text.proofs.fields.down_of.Tie as tie
 
-least-of-requires : tie.Need-least-of-requires
+least-of-requires : tie.Need-least_of-requires
 least-of-requires c κs = search rules
 
 magnitude-requires : tie.Need-magnitude-requires
@@ -16,5 +16,5 @@ magnitude-requires c κs = search rules
 returns : tie.Need-returns
 returns c = let end = c.before.least-of in c.magnitude.ensures ∙ ap magnitude_of (held w64 end.result end.type-inv ∙ end.ensures)
 
-pub down-of-spec : {M : Type 1} → statement M
-down-of-spec = tie.close (tie.spec least-of-requires magnitude-requires returns)
+pub down_of_spec : {M : Type 1} → statement M
+down_of_spec = tie.close (tie.spec least-of-requires magnitude-requires returns)

@@ -40,58 +40,58 @@ up_small k = go (eqb k u8) (eqb k u32) (eqb k i16) (eqb k i32)
 bad-requires : tie.Need-bad-requires
 bad-requires c κs = search rules
 
-returns : tie.Need-returns
+returns : tie.Need-returns-then-s-eq0
 unfolding field_of
 returns c =
     let a = c.before.before.before.args in
-    c.bad.ensures ∙ R.no_bytes a.s.now (down_of a.kind) (up_of a.kind) c.before.if1.true
+    c.bad.ensures ∙ R.no_bytes a.s.now (down_of a.kind) (up_of a.kind) c.before.if-s-eq0.true
 
-shared-slice-read-if2 : tie.Need-shared-slice-read-if2
+shared-slice-read-if2 : tie.Need-bounds-s-0
 shared-slice-read-if2 c = search rules
 
-digits-from-requires : tie.Need-digits-from-requires
+digits-from-requires : tie.Need-digits_from-requires
 digits-from-requires c κs = search rules
 
-down-of-requires : tie.Need-down-of-requires
+down-of-requires : tie.Need-down_of-requires
 down-of-requires c κs = search rules
 
-below-zero-requires : tie.Need-below-zero-requires
-below-zero-requires c κs = subst (λ (n : ℕ). n ≤ 2 ^ 63) (sym c.down-of.ensures)
+below-zero-requires : tie.Need-below_zero-requires
+below-zero-requires c κs = subst (λ (n : ℕ). n ≤ 2 ^ 63) (sym c.down_of.ensures)
     (down-small c.before.before.before.before.before.before.args.kind)
 
-returns-2 : tie.Need-returns-2
+returns-2 : tie.Need-returns-then-s-eq45
 unfolding field_of
 returns-2 c =
     let d = c.before in
     let e = d.before.before in
     let a = e.before.before.before.before.args in
-    c.below-zero.ensures
-    ∙ ap (λ (n : ℕ). below_zero n d.before.digits_from.result) d.down-of.ensures
+    c.below_zero.ensures
+    ∙ ap (λ (n : ℕ). below_zero n d.before.digits_from.result) d.down_of.ensures
     ∙ ap (λ (m : Digits). below_zero (down_of a.kind) m) d.before.digits_from.ensures
-    ∙ R.with-minus a.s.now (down_of a.kind) (up_of a.kind) (omega arith) e.if2.true (down-small a.kind)
+    ∙ R.with-minus a.s.now (down_of a.kind) (up_of a.kind) (omega arith) e.if-s-eq45.true (down-small a.kind)
 
-digits-from-requires-2 : tie.Need-digits-from-requires-2
+digits-from-requires-2 : tie.Need-digits_from-requires-2
 digits-from-requires-2 c κs = search rules
 
-up-of-requires : tie.Need-up-of-requires
+up-of-requires : tie.Need-up_of-requires
 up-of-requires c κs = search rules
 
-above-zero-requires : tie.Need-above-zero-requires
+above-zero-requires : tie.Need-above_zero-requires
 above-zero-requires c κs = subst (λ (n : ℕ). n < 2 ^ 63) (sym c.up_of.ensures) (up_small c.before.before.before.before.before.before.args.kind)
 
-returns-3 : tie.Need-returns-3
+returns-3 : tie.Need-returns
 unfolding field_of
 returns-3 c =
     let d = c.before in
     let e = d.before.before in
     let a = e.before.before.before.before.args in
     c.above_zero.ensures
-    ∙ ap (λ (n : ℕ). above_zero n d.before.digits-from2.result) d.up_of.ensures
-    ∙ ap (λ (m : Digits). above_zero (up_of a.kind) m) d.before.digits-from2.ensures
-    ∙ R.without-minus a.s.now (down_of a.kind) (up_of a.kind) (omega arith) e.if2.false (omega (arith, up_small a.kind))
+    ∙ ap (λ (n : ℕ). above_zero n d.before.digits_from-2.result) d.up_of.ensures
+    ∙ ap (λ (m : Digits). above_zero (up_of a.kind) m) d.before.digits_from-2.ensures
+    ∙ R.without-minus a.s.now (down_of a.kind) (up_of a.kind) (omega arith) e.if-s-eq45.false (omega (arith, up_small a.kind))
 
-pub field-spec : {M : Type 1} → statement M
-field-spec =
+pub field_spec : {M : Type 1} → statement M
+field_spec =
     tie.close
     (tie.spec
     bad-requires

@@ -7,7 +7,7 @@ use Rattle.print.specs.Number.{magnitude_of}
 use Rattle.text.proofs.fields.up_of.Statement.{statement}
 use Rattle.text.proofs.fields.up_of.Tie as tie
 
-most-of-requires : tie.Need-most-of-requires
+most-of-requires : tie.Need-most_of-requires
 most-of-requires c κs = search rules
 
 magnitude-requires : tie.Need-magnitude-requires
@@ -16,5 +16,5 @@ magnitude-requires c κs = search rules
 returns : tie.Need-returns
 returns c = let end = c.before.most-of in c.magnitude.ensures ∙ ap magnitude_of (held w64 end.result end.type-inv ∙ end.ensures)
 
-pub up-of-spec : {M : Type 1} → statement M
-up-of-spec = tie.close (tie.spec most-of-requires magnitude-requires returns)
+pub up_of_spec : {M : Type 1} → statement M
+up_of_spec = tie.close (tie.spec most-of-requires magnitude-requires returns)

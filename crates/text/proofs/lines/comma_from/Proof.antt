@@ -9,46 +9,46 @@ use Rattle.text.proofs.Splitting as P
 use Rattle.text.proofs.lines.comma_from.Statement.{statement}
 use Rattle.text.proofs.lines.comma_from.Tie as tie
 
-abbrev invariant-loop : tie.invariant-loop
+abbrev invariant-loop : tie.invariant-loop-i
 invariant-loop s at i₀ i = (i ≤ length s) × (at + length (before 44 (drop at s)) ≡ i + length (before 44 (drop i s)))
 
-abbrev decreases-loop : tie.decreases-loop
+abbrev decreases-loop : tie.decreases-loop-i
 decreases-loop s at i₀ i = length s - i
 
-loop-holds : tie.Need-loop-init invariant-loop decreases-loop
+loop-holds : tie.Need-loop-i-init invariant-loop decreases-loop
 loop-holds c = (omega arith, refl)
 
-shared-slice-read-if1 : tie.Need-shared-slice-read-if1 invariant-loop decreases-loop
+shared-slice-read-if1 : tie.Need-bounds-s-i invariant-loop decreases-loop
 shared-slice-read-if1 c = omega arith
 
-returns : tie.Need-returns invariant-loop decreases-loop
+returns : tie.Need-returns-then-s-i-eq44 invariant-loop decreases-loop
 returns c =
     let l = c.before.before.before in
     let s = l.before.args.s.now in
-    let z : length (before 44 (drop l.loop.i s)) ≡ 0 = P.found 44 s l.loop.i (omega arith) c.if1.true in
+    let z : length (before 44 (drop l.loop-i.i s)) ≡ 0 = P.found 44 s l.loop-i.i (omega arith) c.if-s-i-eq44.true in
     (omega arith, omega arith)
 
-add-i : tie.Need-overflow-add-i invariant-loop decreases-loop
+add-i : tie.Need-overflow_add-i invariant-loop decreases-loop
 add-i c = omega arith
 
-loop-less : tie.Need-loop-smaller invariant-loop decreases-loop
+loop-less : tie.Need-loop-i-smaller invariant-loop decreases-loop
 loop-less c = omega arith
 
-loop-again : tie.Need-loop-preserved invariant-loop decreases-loop
+loop-again : tie.Need-loop-i-preserved invariant-loop decreases-loop
 loop-again c =
     let l = c.before.before.before in
     let s = l.before.args.s.now in
-    (omega arith, l.loop.invariant.1 ∙ P.passed 44 s l.loop.i (omega arith) c.if1.false)
+    (omega arith, l.loop-i.invariant.1 ∙ P.passed 44 s l.loop-i.i (omega arith) c.if-s-i-eq44.false)
 
-returns-2 : tie.Need-returns-2 invariant-loop decreases-loop
+returns-2 : tie.Need-returns invariant-loop decreases-loop
 returns-2 c =
     let l = c.before in
     let s = l.before.args.s.now in
-    let z : length (before 44 (drop l.loop.i s)) ≡ 0 = P.at-end 44 s l.loop.i (omega arith) in
+    let z : length (before 44 (drop l.loop-i.i s)) ≡ 0 = P.at-end 44 s l.loop-i.i (omega arith) in
     (omega arith, omega arith)
 
-pub comma-from-spec : {M : Type 1} → statement M
-comma-from-spec =
+pub comma_from_spec : {M : Type 1} → statement M
+comma_from_spec =
     tie.close
     (tie.spec
     invariant-loop

@@ -10,59 +10,59 @@ use Rattle.text.proofs.Splitting as P
 use Rattle.text.proofs.lines.line_end.Statement.{statement}
 use Rattle.text.proofs.lines.line_end.Tie as tie
 
-abbrev invariant-loop : tie.invariant-loop
+abbrev invariant-loop : tie.invariant-loop-i
 invariant-loop s most i₀ i = (most ≡ min (length s) 1025) × (i ≤ most) × (length (before 10 s) ≡ i + length (before 10 (drop i s)))
 
-abbrev decreases-loop : tie.decreases-loop
+abbrev decreases-loop : tie.decreases-loop-i
 decreases-loop s most i₀ i = most - i
 
-add-least : tie.Need-overflow-add-least invariant-loop decreases-loop
+add-least : tie.Need-overflow_add-least invariant-loop decreases-loop
 add-least c = search rules
 
-least-requires : tie.Need-least-requires invariant-loop decreases-loop
+least-requires : tie.Need-least-most-requires invariant-loop decreases-loop
 least-requires c κs = search rules
 
-loop-holds : tie.Need-loop-init invariant-loop decreases-loop
-loop-holds c = (c.least.ensures, omega arith, omega arith)
+loop-holds : tie.Need-loop-i-init invariant-loop decreases-loop
+loop-holds c = (c.least-most.ensures, omega arith, omega arith)
 
-shared-slice-read-if1 : tie.Need-shared-slice-read-if1 invariant-loop decreases-loop
+shared-slice-read-if1 : tie.Need-bounds-s-i invariant-loop decreases-loop
 shared-slice-read-if1 c = omega arith
 
-returns : tie.Need-returns invariant-loop decreases-loop
+returns : tie.Need-returns-then-s-i-eq10 invariant-loop decreases-loop
 returns c =
     let l = c.before.before.before in
     let s = l.before.before.before.args.s.now in
-    let z : length (before 10 (drop l.loop.i s)) ≡ 0 = P.found 10 s l.loop.i (omega arith) c.if1.true in
-    P.ends-after s l.loop.i (omega arith) (omega arith) (omega arith)
+    let z : length (before 10 (drop l.loop-i.i s)) ≡ 0 = P.found 10 s l.loop-i.i (omega arith) c.if-s-i-eq10.true in
+    P.ends-after s l.loop-i.i (omega arith) (omega arith) (omega arith)
 
-add-i : tie.Need-overflow-add-i invariant-loop decreases-loop
+add-i : tie.Need-overflow_add-i invariant-loop decreases-loop
 add-i c = omega arith
 
-loop-less : tie.Need-loop-smaller invariant-loop decreases-loop
+loop-less : tie.Need-loop-i-smaller invariant-loop decreases-loop
 loop-less c = omega arith
 
-loop-again : tie.Need-loop-preserved invariant-loop decreases-loop
+loop-again : tie.Need-loop-i-preserved invariant-loop decreases-loop
 loop-again c =
     let l = c.before.before.before in
     let s = l.before.before.before.args.s.now in
-    (l.loop.invariant.0, omega arith, l.loop.invariant.2 ∙ P.passed 10 s l.loop.i (omega arith) c.if1.false)
+    (l.loop-i.invariant.0, omega arith, l.loop-i.invariant.2 ∙ P.passed 10 s l.loop-i.i (omega arith) c.if-s-i-eq10.false)
 
-returns-2 : tie.Need-returns-2 invariant-loop decreases-loop
+returns-2 : tie.Need-returns-then-i-gt-LONGEST invariant-loop decreases-loop
 returns-2 c =
     let l = c.before.before in
     let s = l.before.before.before.args.s.now in
     P.ends-too-long s (length (before 10 s)) refl (omega arith)
 
-returns-3 : tie.Need-returns-3 invariant-loop decreases-loop
+returns-3 : tie.Need-returns invariant-loop decreases-loop
 returns-3 c =
     let l = c.before.before in
     let s = l.before.before.before.args.s.now in
-    let all : length s ≤ l.loop.i = omega arith in
-    let z : length (before 10 (drop l.loop.i s)) ≡ 0 = P.at-end 10 s l.loop.i all in
-    P.ends_open s l.loop.i (omega arith) (omega arith) all
+    let all : length s ≤ l.loop-i.i = omega arith in
+    let z : length (before 10 (drop l.loop-i.i s)) ≡ 0 = P.at-end 10 s l.loop-i.i all in
+    P.ends_open s l.loop-i.i (omega arith) (omega arith) all
 
-pub line-end-spec : {M : Type 1} → statement M
-line-end-spec =
+pub line_end_spec : {M : Type 1} → statement M
+line_end_spec =
     tie.close
     (tie.spec
     invariant-loop

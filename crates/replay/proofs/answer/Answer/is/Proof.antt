@@ -34,68 +34,68 @@ at-requires-3 c κs = search rules
 at-requires-4 : tie.Need-at-requires-4
 at-requires-4 c κs = search rules
 
-cast-if2 : tie.Need-overflow-cast-if2
+cast-if2 : tie.Need-overflow_cast-self
 cast-if2 c = search rules
 
-returns : tie.Need-returns
+returns : tie.Need-returns-then-numbers-self
 unfolding is_answer
-returns c = simp (ne_eqb _ _ c.if1.true)
+returns c = simp (ne_eqb _ _ c.if-numbers-self.true)
 
-number_is : (c : tie.Else2) → let a = c.before.before.before.before.before.args in eq_z (get_or a.numbers.now 0 (pos 0)) (pos a.self.number) ≡ true
+number_is : (c : tie.Else-at-self) → let a = c.before.before.before.before.before.args in eq_z (get_or a.numbers.now 0 (pos 0)) (pos a.self.number) ≡ true
 number_is c =
     let self = c.before.before.before.before.before.args.self in
     let at = c.before.before in
-    same at.at.result _ (pos self.number) at.at.ensures at.at.type-inv (record { sfits = omega arith }) c.if2.false
+    same at.at.result _ (pos self.number) at.at.ensures at.at.type-inv (record { sfits = omega arith }) c.if-at-self.false
 
-returns-2 : tie.Need-returns-2
+returns-2 : tie.Need-returns-then-at-self
 unfolding is_answer
 returns-2 c =
     let self = c.before.before.before.before.before.args.self in
     let at = c.before.before in
-    let is = other at.at.result _ (pos self.number) at.at.ensures at.at.type-inv (record { sfits = omega arith }) c.if2.true in
-    simp (eq-eqb _ _ at.before.if1.false, is)
+    let is = other at.at.result _ (pos self.number) at.at.ensures at.at.type-inv (record { sfits = omega arith }) c.if-at-self.true in
+    simp (eq-eqb _ _ at.before.if-numbers-self.false, is)
 
-first-is : (c : tie.Else3)
+first-is : (c : tie.Else-at-self-2)
     → let a = c.before.before.before.before.before.before.before.before.before.args in eq_z (get_or a.numbers.now 1 (pos 0)) a.self.first ≡ true
 first-is c =
     let self = c.before.before.before.before.before.before.before.before.before.args.self in
     let at = c.before.before.before in
-    same at.at2.result _ self.first at.at2.ensures at.at2.type-inv (search c.before.struct_told.given depth 40) c.if3.false
+    same at.at-2.result _ self.first at.at-2.ensures at.at-2.type-inv (search c.before.struct_told-1.given depth 40) c.if-at-self-2.false
 
-returns-3 : tie.Need-returns-3
+returns-3 : tie.Need-returns-then-at-self-2
 unfolding is_answer
 returns-3 c =
     let self = c.before.before.before.before.before.before.before.before.before.args.self in
     let at = c.before.before.before in
-    let is = other at.at2.result _ self.first at.at2.ensures at.at2.type-inv (search c.before.struct_told.given depth 40) c.if3.true in
-    simp (eq-eqb _ _ at.before.before.before.before.if1.false, number_is at.before, is)
+    let is = other at.at-2.result _ self.first at.at-2.ensures at.at-2.type-inv (search c.before.struct_told-1.given depth 40) c.if-at-self-2.true in
+    simp (eq-eqb _ _ at.before.before.before.before.if-numbers-self.false, number_is at.before, is)
 
-second_is : (c : tie.Else4)
+second_is : (c : tie.Else-at-self-3)
     → let a = c.before.before.before.before.before.before.before.before.before.before.before.before.before.args in
     eq_z (get_or a.numbers.now 2 (pos 0)) a.self.second ≡ true
 second_is c =
     let self = c.before.before.before.before.before.before.before.before.before.before.before.before.before.args.self in
     let at = c.before.before.before in
-    same at.at3.result _ self.second at.at3.ensures at.at3.type-inv (search c.before.struct-told2.given depth 40) c.if4.false
+    same at.at-3.result _ self.second at.at-3.ensures at.at-3.type-inv (search c.before.struct_told-2-1.given depth 40) c.if-at-self-3.false
 
-returns-4 : tie.Need-returns-4
+returns-4 : tie.Need-returns-then-at-self-3
 unfolding is_answer
 returns-4 c =
     let self = c.before.before.before.before.before.before.before.before.before.before.before.before.before.args.self in
     let at = c.before.before.before in
-    let is = other at.at3.result _ self.second at.at3.ensures at.at3.type-inv (search c.before.struct-told2.given depth 40) c.if4.true in
+    let is = other at.at-3.result _ self.second at.at-3.ensures at.at-3.type-inv (search c.before.struct_told-2-1.given depth 40) c.if-at-self-3.true in
     let e = at.before in
-    simp (eq-eqb _ _ e.before.before.before.before.before.before.before.if1.false, number_is e.before.before.before.before, first-is e, is)
+    simp (eq-eqb _ _ e.before.before.before.before.before.before.before.if-numbers-self.false, number_is e.before.before.before.before, first-is e, is)
 
-returns-5 : tie.Need-returns-5
+returns-5 : tie.Need-returns
 unfolding is_answer
 returns-5 c =
     let self = c.before.before.before.before.before.before.before.before.before.before.before.before.before.before.before.before.args.self in
     let at = c.before.before in
     let e = at.before in
-    let is = same_bits at.at4.result self.third (record { sfits = at.at4.type-inv }) (search c.struct-told3.given depth 40)
-    ∙ ap (λ (z : ℤ). eq_z z self.third) at.at4.ensures in
-    let long = e.before.before.before.before.before.before.before.before.before.before.before.if1.false in
+    let is = same_bits at.at-4.result self.third (record { sfits = at.at-4.type-inv }) (search c.struct_told-3-1.given depth 40)
+    ∙ ap (λ (z : ℤ). eq_z z self.third) at.at-4.ensures in
+    let long = e.before.before.before.before.before.before.before.before.before.before.before.if-numbers-self.false in
     simp (
       eq-eqb _ _ long,
       number_is e.before.before.before.before.before.before.before.before,
@@ -103,8 +103,8 @@ returns-5 c =
       second_is e,
     ) is
 
-pub is-spec : {M : Type 1} → statement M
-is-spec =
+pub is_spec : {M : Type 1} → statement M
+is_spec =
     tie.close
     (tie.spec
     returns

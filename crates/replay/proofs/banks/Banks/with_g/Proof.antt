@@ -3,17 +3,17 @@ use borrow.Author.Rules.{rules}
 use Rattle.replay.proofs.banks.Banks.with_g.Statement.{statement}
 use Rattle.replay.proofs.banks.Banks.with_g.Tie as tie
 
-keep-requires : tie.Need-keep-requires
+keep-requires : tie.Need-keep-g-requires
 keep-requires c κs = search rules
 
-same_length : tie.Need-same-length
+same_length : tie.Need-shape_of-room
 same_length c = search rules
 
 returns : tie.Need-returns
 returns c =
-    let e = c.before.keep.ensures in
+    let e = c.before.keep-g.ensures in
     let s = c.before.before.before.args.self in
     (λ i. record { h = s.h; g = e.0 i; k = s.k }, e.1)
 
-pub with-g-spec : {M : Type 1} → statement M
-with-g-spec = tie.close (tie.spec keep-requires same_length returns)
+pub with_g_spec : {M : Type 1} → statement M
+with_g_spec = tie.close (tie.spec keep-requires same_length returns)

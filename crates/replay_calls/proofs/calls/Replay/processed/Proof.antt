@@ -15,25 +15,25 @@ g-requires c κs = search rules
 k-requires : tie.Need-k-requires
 k-requires c κs = search rules
 
-process-requires : tie.Need-process-requires
+process-requires : tie.Need-process-block-requires
 process-requires c κs = search rules
 
-is-block-requires : tie.Need-is-block-requires
+is-block-requires : tie.Need-is_block-requires
 is-block-requires c κs = search rules
 
 counted-requires : tie.Need-counted-requires
 counted-requires c κs = search rules
 
-same_length : tie.Need-same-length
+same_length : tie.Need-shape_of-out
 same_length c =
     let filled = c.before.before.before.before.before.before.before.before.before.before.before.before.before.before.before.fill in
-    c.before.before.before.before.before.process.auto.1.1.1.1.1.1.0 ∙ filled.auto.0
+    c.before.before.before.before.before.process-block.auto.1.1.1.1.1.1.0 ∙ filled.auto.0
 
 returns : tie.Need-returns
 returns c = search rules
 
-pub processed-spec : {M : Type 1} → statement M
-processed-spec =
+pub processed_spec : {M : Type 1} → statement M
+processed_spec =
     tie.close
     (tie.spec
     fill-requires

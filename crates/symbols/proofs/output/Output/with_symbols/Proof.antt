@@ -3,59 +3,59 @@ use Rattle.std.proofs.Common.{◌≡◌, ◌-◌, ◌≤◌, length, rules}
 use Rattle.symbols.proofs.output.Output.with_symbols.Statement.{statement}
 use Rattle.symbols.proofs.output.Output.with_symbols.Tie as tie
 
-abbrev invariant-loop : tie.invariant-loop
+abbrev invariant-loop : tie.invariant-loop-n
 invariant-loop places count out₀ left₀ most n₀ out left n = (length out ≡ length out₀) × (n ≤ most)
 
-abbrev decreases-loop : tie.decreases-loop
+abbrev decreases-loop : tie.decreases-loop-n
 decreases-loop places count out₀ left₀ most n₀ out left n = most - n
 
-least-requires : tie.Need-least-requires invariant-loop decreases-loop
+least-requires : tie.Need-least-most-requires invariant-loop decreases-loop
 least-requires c κs = search rules
 
-loop-holds : tie.Need-loop-init invariant-loop decreases-loop
+loop-holds : tie.Need-loop-n-init invariant-loop decreases-loop
 loop-holds c = search rules
 
-with-room-requires : tie.Need-with-room-requires invariant-loop decreases-loop
+with-room-requires : tie.Need-with_room-left-requires invariant-loop decreases-loop
 with-room-requires c κs = search rules
 
-mul-from : tie.Need-overflow-mul-from invariant-loop decreases-loop
+mul-from : tie.Need-overflow_mul-from invariant-loop decreases-loop
 mul-from c = search rules
 
-add-to : tie.Need-overflow-add-to invariant-loop decreases-loop
+add-to : tie.Need-overflow_add-to invariant-loop decreases-loop
 add-to c = search rules
 
-mul-put-row : tie.Need-overflow-mul-put-row invariant-loop decreases-loop
+mul-put-row : tie.Need-offset_bounds-places-from invariant-loop decreases-loop
 mul-put-row c = search rules
 
-sub-put-row : tie.Need-overflow-sub-put-row invariant-loop decreases-loop
+sub-put-row : tie.Need-slice_bounds-put_row-count invariant-loop decreases-loop
 sub-put-row c = search rules
 
-part-put-row-start : tie.Need-slice-bounds-put-row-start invariant-loop decreases-loop
+part-put-row-start : tie.Need-slice_bounds-put_row-start invariant-loop decreases-loop
 part-put-row-start c = search rules
 
-part-put-row-end : tie.Need-slice-bounds-put-row-end invariant-loop decreases-loop
+part-put-row-end : tie.Need-slice_bounds-put_row-end invariant-loop decreases-loop
 part-put-row-end c = search rules
 
-put-row-requires : tie.Need-put-row-requires invariant-loop decreases-loop
+put-row-requires : tie.Need-put_row-requires invariant-loop decreases-loop
 put-row-requires c κs = search rules
 
-add-n : tie.Need-overflow-add-n invariant-loop decreases-loop
+add-n : tie.Need-overflow_add-n invariant-loop decreases-loop
 add-n c = search rules
 
-loop-less : tie.Need-loop-smaller invariant-loop decreases-loop
+loop-less : tie.Need-loop-n-smaller invariant-loop decreases-loop
 loop-less c = search rules
 
-loop-again : tie.Need-loop-preserved invariant-loop decreases-loop
+loop-again : tie.Need-loop-n-preserved invariant-loop decreases-loop
 loop-again c = search rules
 
-same_length : tie.Need-same-length invariant-loop decreases-loop
+same_length : tie.Need-shape_of-out invariant-loop decreases-loop
 same_length c = search rules
 
 returns : tie.Need-returns invariant-loop decreases-loop
 returns c = search rules
 
-pub with-symbols-spec : {M : Type 1} → statement M
-with-symbols-spec =
+pub with_symbols_spec : {M : Type 1} → statement M
+with_symbols_spec =
     tie.close
     (tie.spec
     invariant-loop

@@ -32,122 +32,122 @@ module _ (s : Sheet) (f : Frontend) (values out : List ℤ) {b : Block} (is : b 
 rest-long : (values : List ℤ) (n : ℕ) → length (take (length values - n) (drop n values)) ≡ length values - n
 rest-long values n = length-take-le (length values - n) (drop n values) (omega (arith, length-drop n values))
 
-abbrev invariant-loop : tie.invariant-loop
+abbrev invariant-loop : tie.invariant-loop-n
 invariant-loop params h g k values places₀ out₀ next₀ n₀ places out next n =
     (length places ≡ length places₀) × (length out ≡ length out₀) × (n ≤ length values / 2)
 
-abbrev decreases-loop : tie.decreases-loop
+abbrev decreases-loop : tie.decreases-loop-n
 decreases-loop params h g k values places₀ out₀ next₀ n₀ places out next n = length values / 2 - n
 
-loop-holds : tie.Need-loop-init invariant-loop decreases-loop
+loop-holds : tie.Need-loop-n-init invariant-loop decreases-loop
 loop-holds c = search rules
 
-goes-on-requires : tie.Need-goes-on-requires invariant-loop decreases-loop
+goes-on-requires : tie.Need-goes_on-requires invariant-loop decreases-loop
 goes-on-requires c κs = search rules
 
-mul-process : tie.Need-overflow-mul-process invariant-loop decreases-loop
+mul-process : tie.Need-overflow_mul-n invariant-loop decreases-loop
 mul-process c = search rules
 
-mul-process-2 : tie.Need-overflow-mul-process-2 invariant-loop decreases-loop
+mul-process-2 : tie.Need-offset_bounds-values-n invariant-loop decreases-loop
 mul-process-2 c = search rules
 
-sub-process : tie.Need-overflow-sub-process invariant-loop decreases-loop
+sub-process : tie.Need-slice_bounds-process-count invariant-loop decreases-loop
 sub-process c = search rules
 
-part-process-start : tie.Need-slice-bounds-process-start invariant-loop decreases-loop
+part-process-start : tie.Need-slice_bounds-process-start invariant-loop decreases-loop
 part-process-start c = search rules
 
-part-process-end : tie.Need-slice-bounds-process-end invariant-loop decreases-loop
+part-process-end : tie.Need-slice_bounds-process-end invariant-loop decreases-loop
 part-process-end c = search rules
 
-process-requires : tie.Need-process-requires invariant-loop decreases-loop
+process-requires : tie.Need-process-done-requires invariant-loop decreases-loop
 process-requires c κs = search rules
 
-number-requires : tie.Need-number-requires invariant-loop decreases-loop
+number-requires : tie.Need-number-number-requires invariant-loop decreases-loop
 number-requires c κs = search rules
 
-with-call-requires : tie.Need-with-call-requires invariant-loop decreases-loop
+with-call-requires : tie.Need-with_call-next-requires invariant-loop decreases-loop
 with-call-requires c κs = search rules
 
 -- a turn: the call, its number, and the symbols printed
-module _ (c : tie.After-slice-known2 invariant-loop decreases-loop) where
-  abbrev written : tie.After-with-call invariant-loop decreases-loop
+module _ (c : tie.After-slice_known-in-loop-n-1 invariant-loop decreases-loop) where
+  abbrev written : tie.After-with_call-next invariant-loop decreases-loop
   written = c.before.before
 
-  abbrev numbered : tie.After-number invariant-loop decreases-loop
+  abbrev numbered : tie.After-number-number invariant-loop decreases-loop
   numbered = written.before.before.before
 
-  abbrev called : tie.After-process invariant-loop decreases-loop
+  abbrev called : tie.After-process-done invariant-loop decreases-loop
   called = numbered.before.before
 
-  abbrev turn : tie.In-loop invariant-loop decreases-loop
+  abbrev turn : tie.In-loop-n invariant-loop decreases-loop
   turn = called.before.before.before.before.before.before
 
   abbrev values : List ℤ
   values = turn.before.before.before.args.values.now
 
-  places-long : length called.process.last.1.1.1.1.1.1.0 ≡ length turn.before.before.before.args.places.now
-  places-long = called.process.kept.1.1.1.1.1.1.0 ∙ turn.before.loop.inv.0
+  places-long : length called.process-done.last.1.1.1.1.1.1.0 ≡ length turn.before.before.before.args.places.now
+  places-long = called.process-done.kept.1.1.1.1.1.1.0 ∙ turn.before.loop-n.invariant.0
 
-  out-long : length written.with_call.last.1.1.1.1.0 ≡ length turn.before.before.before.args.out.now
-  out-long = written.with_call.kept.1.1.1.1.0 ∙ turn.before.loop.inv.1
+  out-long : length written.with_call-next.last.1.1.1.1.0 ≡ length turn.before.before.before.args.out.now
+  out-long = written.with_call-next.kept.1.1.1.1.0 ∙ turn.before.loop-n.invariant.1
 
-same_length : tie.Need-same-length invariant-loop decreases-loop
+same_length : tie.Need-shape_of-places-then-number-gt0 invariant-loop decreases-loop
 same_length c = places-long c.before
 
-same-length-2 : tie.Need-same-length-2 invariant-loop decreases-loop
+same-length-2 : tie.Need-shape_of-out-then-number-gt0 invariant-loop decreases-loop
 same-length-2 c = out-long c.before
 
-returns : tie.Need-returns invariant-loop decreases-loop
+returns : tie.Need-returns-then-number-gt0 invariant-loop decreases-loop
 returns c = search rules
 
 -- what a turn that is not refused takes of the pairs that are left
-module _ (c : tie.Else2 invariant-loop decreases-loop) where
-  abbrev done : tie.After-slice-known2 invariant-loop decreases-loop
+module _ (c : tie.Else-number-gt0 invariant-loop decreases-loop) where
+  abbrev done : tie.After-slice_known-in-loop-n-1 invariant-loop decreases-loop
   done = c.before
 
-  none : (frontend_refusal (called done).process.result.verdict).number ≡ 0
-  none = omega (arith, (numbered done).number.ensures, c.if2.false)
+  none : (frontend_refusal (called done).process-done.result.verdict).number ≡ 0
+  none = omega (arith, (numbered done).number-number.ensures, c.if-number-gt0.false)
 
-  some : 1 ≤ (called done).process.result.taken
+  some : 1 ≤ (called done).process-done.result.taken
   some =
-      took-some _ _ _ _ (called done).process.ensures none
-      (omega (arith, rest-long (values done) (2 * (turn done).before.loop.n), (turn done).loop-test.taken))
+      took-some _ _ _ _ (called done).process-done.ensures none
+      (omega (arith, rest-long (values done) (2 * (turn done).before.loop-n.n), (turn done).loop-n-test.taken))
 
-  given : (turn done).before.loop.n + (called done).process.result.taken ≤ length (values done) / 2
+  given : (turn done).before.loop-n.n + (called done).process-done.result.taken ≤ length (values done) / 2
   given =
-      let most = took-given _ _ _ _ (called done).process.ensures none in
-      omega (arith, most, rest-long (values done) (2 * (turn done).before.loop.n), (turn done).loop-test.taken)
+      let most = took-given _ _ _ _ (called done).process-done.ensures none in
+      omega (arith, most, rest-long (values done) (2 * (turn done).before.loop-n.n), (turn done).loop-n-test.taken)
 
-add-n : tie.Need-overflow-add-n invariant-loop decreases-loop
+add-n : tie.Need-overflow_add-n invariant-loop decreases-loop
 add-n c = record { fits = omega (arith, given c.before, (turn c.before.before).before.before.before.good) }
 
-loop-less : tie.Need-loop-smaller invariant-loop decreases-loop
+loop-less : tie.Need-loop-n-smaller invariant-loop decreases-loop
 loop-less c = omega (arith, some c.before, given c.before)
 
-loop-again : tie.Need-loop-preserved invariant-loop decreases-loop
+loop-again : tie.Need-loop-n-preserved invariant-loop decreases-loop
 loop-again c = (places-long c.before.before, out-long c.before.before, given c.before)
 
-same-length-3 : tie.Need-same-length-3 invariant-loop decreases-loop
+same-length-3 : tie.Need-shape_of-places-else-goes_on invariant-loop decreases-loop
 same-length-3 c = search rules
 
-same-length-4 : tie.Need-same-length-4 invariant-loop decreases-loop
+same-length-4 : tie.Need-shape_of-out-else-goes_on invariant-loop decreases-loop
 same-length-4 c = search rules
 
-returns-2 : tie.Need-returns-2 invariant-loop decreases-loop
+returns-2 : tie.Need-returns-else-goes_on invariant-loop decreases-loop
 returns-2 c = search rules
 
-same-length-5 : tie.Need-same-length-5 invariant-loop decreases-loop
+same-length-5 : tie.Need-shape_of-places-after-loop-n invariant-loop decreases-loop
 same-length-5 c = search rules
 
-same-length-6 : tie.Need-same-length-6 invariant-loop decreases-loop
+same-length-6 : tie.Need-shape_of-out-after-loop-n invariant-loop decreases-loop
 same-length-6 c = search rules
 
-returns-3 : tie.Need-returns-3 invariant-loop decreases-loop
+returns-3 : tie.Need-returns-after-loop-n invariant-loop decreases-loop
 returns-3 c = search rules
 
-pub with-pairs-spec : {M : Type 1} → statement M
-with-pairs-spec =
+pub with_pairs_spec : {M : Type 1} → statement M
+with_pairs_spec =
     tie.close
     (tie.spec
     invariant-loop

@@ -4,82 +4,82 @@ use Rattle.std.proofs.Common.{◌≡◌, ◌-◌, length, rules}
 use Rattle.symbols.proofs.sheet.Head.with_bank.Statement.{statement}
 use Rattle.symbols.proofs.sheet.Head.with_bank.Tie as tie
 
-abbrev invariant-loop : tie.invariant-loop
+abbrev invariant-loop : tie.invariant-loop-row
 invariant-loop first room₀ bytes₀ params rest₀ stop₀ values₀ kinds taps from₀ row₀ room bytes rest stop values from row =
     (length room ≡ length room₀) × (length bytes ≡ length bytes₀) × (length values ≡ 64)
 
-abbrev decreases-loop : tie.decreases-loop
+abbrev decreases-loop : tie.decreases-loop-row
 decreases-loop first room₀ bytes₀ params rest₀ stop₀ values₀ kinds taps from₀ row₀ room bytes rest stop values from row =
     64 - row
 
-row-length-requires : tie.Need-row-length-requires invariant-loop decreases-loop
+row-length-requires : tie.Need-row_length-taps-requires invariant-loop decreases-loop
 row-length-requires c κs = search rules
 
-loop-holds : tie.Need-loop-init invariant-loop decreases-loop
+loop-holds : tie.Need-loop-row-init invariant-loop decreases-loop
 loop-holds c = search rules
 
-is-no-requires : tie.Need-is-no-requires invariant-loop decreases-loop
+is-no-requires : tie.Need-is_no-requires invariant-loop decreases-loop
 is-no-requires c κs = search rules
 
-wrapping-add-u64-requires : tie.Need-wrapping-add-u64-requires invariant-loop decreases-loop
+wrapping-add-u64-requires : tie.Need-wrapping_add_u64-line-requires invariant-loop decreases-loop
 wrapping-add-u64-requires c κs = search rules
 
-sub-take : tie.Need-overflow-sub-take invariant-loop decreases-loop
+sub-take : tie.Need-slice_bounds-take-count invariant-loop decreases-loop
 sub-take c = search rules
 
-part-take-start : tie.Need-slice-bounds-take-start invariant-loop decreases-loop
+part-take-start : tie.Need-slice_bounds-take-start invariant-loop decreases-loop
 part-take-start c = search rules
 
-part-take-end : tie.Need-slice-bounds-take-end invariant-loop decreases-loop
+part-take-end : tie.Need-slice_bounds-take-end invariant-loop decreases-loop
 part-take-end c = search rules
 
-slice-aggregate-take : tie.Need-slice-aggregate-take invariant-loop decreases-loop
+slice-aggregate-take : tie.Need-slice_bounds-take-end-in-loop-row invariant-loop decreases-loop
 slice-aggregate-take c = search rules
 
-take-requires : tie.Need-take-requires invariant-loop decreases-loop
+take-requires : tie.Need-take-taken-requires invariant-loop decreases-loop
 take-requires c κs = search rules
 
-sub-keep-row : tie.Need-overflow-sub-keep-row invariant-loop decreases-loop
+sub-keep-row : tie.Need-slice_bounds-keep_row-count invariant-loop decreases-loop
 sub-keep-row c = search rules
 
-part-keep-row-start : tie.Need-slice-bounds-keep-row-start invariant-loop decreases-loop
+part-keep-row-start : tie.Need-slice_bounds-keep_row-start invariant-loop decreases-loop
 part-keep-row-start c = search rules
 
-part-keep-row-end : tie.Need-slice-bounds-keep-row-end invariant-loop decreases-loop
+part-keep-row-end : tie.Need-slice_bounds-keep_row-end invariant-loop decreases-loop
 part-keep-row-end c = search rules
 
-keep-row-requires : tie.Need-keep-row-requires invariant-loop decreases-loop
+keep-row-requires : tie.Need-keep_row-from-requires invariant-loop decreases-loop
 keep-row-requires c κs = search rules
 
-add_row : tie.Need-overflow-add-row invariant-loop decreases-loop
+add_row : tie.Need-overflow_add-row invariant-loop decreases-loop
 add_row c = search rules
 
-loop-less : tie.Need-loop-smaller invariant-loop decreases-loop
+loop-less : tie.Need-loop-row-smaller invariant-loop decreases-loop
 loop-less c = search rules
 
-loop-again : tie.Need-loop-preserved invariant-loop decreases-loop
+loop-again : tie.Need-loop-row-preserved invariant-loop decreases-loop
 loop-again c = search rules
 
-same_length : tie.Need-same-length invariant-loop decreases-loop
+same_length : tie.Need-shape_of-room-else-is_no invariant-loop decreases-loop
 same_length c = search rules
 
-same-length-2 : tie.Need-same-length-2 invariant-loop decreases-loop
+same-length-2 : tie.Need-shape_of-bytes-else-is_no invariant-loop decreases-loop
 same-length-2 c = search rules
 
-returns : tie.Need-returns invariant-loop decreases-loop
+returns : tie.Need-returns-else-is_no invariant-loop decreases-loop
 returns c = search rules
 
-same-length-3 : tie.Need-same-length-3 invariant-loop decreases-loop
+same-length-3 : tie.Need-shape_of-room-after-loop-row invariant-loop decreases-loop
 same-length-3 c = search rules
 
-same-length-4 : tie.Need-same-length-4 invariant-loop decreases-loop
+same-length-4 : tie.Need-shape_of-bytes-after-loop-row invariant-loop decreases-loop
 same-length-4 c = search rules
 
-returns-2 : tie.Need-returns-2 invariant-loop decreases-loop
+returns-2 : tie.Need-returns-after-loop-row invariant-loop decreases-loop
 returns-2 c = search rules
 
-pub with-bank-spec : {M : Type 1} → statement M
-with-bank-spec =
+pub with_bank_spec : {M : Type 1} → statement M
+with_bank_spec =
     tie.close
     (tie.spec
     invariant-loop
