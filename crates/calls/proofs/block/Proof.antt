@@ -101,10 +101,10 @@ module _ (c : tie.After-read_state-before) where
   read_as p = let a = start.args in sheet_of p a.h.now a.g.now a.k.now
 
   abbrev block_from : Sheet → Frontend → Block
-  block_from s f = let a = start.args in block_of s f a.values.now a.out-1.now
+  block_from s f = let a = start.args in block_of s f a.values.now a.out.now
 
   abbrev given : Slices
-  given = let a = start.args in slices a.state-1.now a.line-1.now a.errors-1.now
+  given = let a = start.args in slices a.state.now a.line.now a.errors.now
 
   -- under the sheet that was read it is that of the sheet asked for
   same : block_from (read_as arm.p-1.given.0.0) c.read_state-before.result ≡ block_from asked c.read_state-before.result
@@ -115,12 +115,12 @@ module _ (c : tie.After-read_state-before) where
       ≡ first_number (state_number asked given) (block_from asked (state_of given)).refused.number
   first =
       let a = start.args in
-      ap (λ (f : Frontend). (block_from asked f).refused.number) c.read_state-before.ensures ∙ block-number asked given a.values.now a.out-1.now
+      ap (λ (f : Frontend). (block_from asked f).refused.number) c.read_state-before.ensures ∙ block-number asked given a.values.now a.out.now
 
   -- a number that refuses the block is the call's
   refusing : {n : ℕ} → (n ≡ 0 → ⊥) → n ≡ (block_from asked c.read_state-before.result).refused.number
       → let a = start.args in
-      n ≡ number a.sheet.now a.h.now a.g.now a.k.now given a.values.now a.out-1.now a.answer.now
+      n ≡ number a.sheet.now a.h.now a.g.now a.k.now given a.values.now a.out.now a.answer.now
   refusing some is =
       let of-block = (block_from asked (state_of given)).refused.number in
       then_is _ _ (readable arm).none (first_more (state_number asked given) of-block (room start.args.answer.now) some (is ∙ first))
@@ -132,7 +132,7 @@ module _ (c : tie.After-read_state-before) where
 
   deciding : {n : ℕ} → (block_from asked c.read_state-before.result).refused.number ≡ 0 → n ≡ room start.args.answer.now
       → let a = start.args in
-      n ≡ number a.sheet.now a.h.now a.g.now a.k.now given a.values.now a.out-1.now a.answer.now
+      n ≡ number a.sheet.now a.h.now a.g.now a.k.now given a.values.now a.out.now a.answer.now
   deciding z is = then_is _ _ (readable arm).none (then_is _ _ (none z).0 (then_is _ _ (none z).1 is))
 
 -- ---- no room for the answer
@@ -150,7 +150,7 @@ checked c =
     let r = c.before.before.before in
     let a = (start r).args in
     c.number-refused.ensures ∙ ap (λ (x : Refusal). x.number) c.before.check_block.ensures
-    ∙ sym (number-first (read_as r (arm r).p-1.given.0.0) r.read_state-before.result a.values.now a.out-1.now)
+    ∙ sym (number-first (read_as r (arm r).p-1.given.0.0) r.read_state-before.result a.values.now a.out.now)
     ∙ ap (λ (b : Block). b.refused.number) (same r)
 
 returns : tie.Need-returns-then-refused-ne0
@@ -175,7 +175,7 @@ abbrev stated : tie.After-process-done → tie.After-read_state-before
 stated c = c.before.before.before
 
 told : (c : tie.After-process-done) → let r = stated c in
-    processed c.process-done.result c.process-done.new.1.1.1.1.1.1.0 ≡ block_from r (asked r) r.read_state-before.result
+    processed c.process-done.result c.process-done.new.out ≡ block_from r (asked r) r.read_state-before.result
 told c = c.process-done.ensures ∙ same (stated c)
 
 numbered : (c : tie.After-number-refused-in-Sheet) → let r = stated c.before.before in
@@ -203,7 +203,7 @@ module _ (c : tie.Else-refused-ne0-2) where
   fitting : state_fits (given from) ≡ true
   fitting = state-fits (asked from) (given from) (none from accepts).0
 
-  done : processed running.process-done.result running.process-done.last.1.1.1.1.1.1.0 ≡ block_from from (asked from) (state_of (given from))
+  done : processed running.process-done.result running.process-done.new.out ≡ block_from from (asked from) (state_of (given from))
   done =
       told running
       ∙ ap (λ (f : Frontend). block_from from (asked from) f) (from.read_state-before.ensures ∙ state-read (asked from) (given from) fitting)
@@ -222,7 +222,7 @@ module _ (c : tie.Else-refused-ne0-2) where
   clipped : running.process-done.result.clips ≤ 9223372036854775807
   clipped =
       let a = (start from).args in
-      let few = block-clips (asked from) (state_of (given from)) a.values.now a.out-1.now in
+      let few = block-clips (asked from) (state_of (given from)) a.values.now a.out.now in
       subst (λ (n : ℕ). n ≤ 9223372036854775807) (ap (λ (b : Block). b.clips) (sym done))
       (omega (arith, few, leaves.written, (start from).good.1.1.1.1.1.1.1.1.0.1))
 
@@ -324,7 +324,7 @@ same-length-13 : tie.Need-shape_of-errors
 same-length-13 c = search rules
 
 same-length-14 : tie.Need-shape_of-out
-same-length-14 c = (running (passed c)).process-done.kept.1.1.1.1.1.1.0
+same-length-14 c = (running (passed c)).process-done.auto.out
 
 same-length-15 : tie.Need-shape_of-answer
 same-length-15 c = search rules

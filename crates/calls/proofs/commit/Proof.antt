@@ -69,7 +69,7 @@ module _ (c : tie.After-is_state) where
   sheet = let a = start.args in sheet_at a.sheet.now a.h.now a.g.now a.k.now
 
   abbrev given : Slices
-  given = let a = start.args in slices a.state-1.now a.line.now a.errors.now
+  given = let a = start.args in slices a.state.now a.line.now a.errors.now
 
   -- under the sheet that was read it is as under the sheet asked for
   same : {A : Type 0} (of : Sheet → A)
@@ -202,7 +202,7 @@ returns-4 c =
     let t = tested r in
     let l = given t in
     let p = (arm t).p-1.given.0.0 in
-    let ys = w.write_sheet.new.1.0 in
+    let ys = w.write_sheet.new.sheet in
     let none = sym (numbered n) ∙ e.if-refused-ne0.false in
     let wrote = written l (fitting r) p (record { number = w.write_sheet.result; places = ys }) w.write_sheet.ensures in
     let holds : retuned p (state_of l) ≡ (answer r).state =

@@ -91,7 +91,7 @@ returns-3 c =
     let right = w.before.before.before.before.before in
     let new = right.before.before in
     let a = new.before.before.before.before.before.args in
-    let l = slices a.state-1.now a.line-1.now a.errors-1.now in
+    let l = slices a.state.now a.line.now a.errors.now in
     w.write_state.ensures
     ∙ ap (λ (s : Start). state_written s.state l) (told new)
     ∙ written _ l

@@ -217,7 +217,7 @@ returns c =
     let a = s.args in
     let begin = begins r.before in
     let head = (going a.p a.f (ok s).good).head in
-    answer (sheet s) a.f a.values.now a.out-1.now {o = r.run-s.new.1.1.1.1.1.0}
+    answer (sheet s) a.f a.values.now a.out.now {o = r.run-s.new.out}
     (choice r.before).pairs_taken-taken.ensures
     (put-together (ends r) ((ok s).holds ∙ sym (run-params (sheet s) a.f (pairs r.before)))
     (line-packed a.f.line (ends r).line (λ n h. after-rest (sheet s) a.f (pairs r.before) n head h) l.pack_line.ensures)

@@ -17,10 +17,10 @@ clamp-requires c κs = search rules
 
 value : (c : tie.After-clamp) → to_z w64 (of_z w64 c.clamp.result) ≡ to_signed 31 c.before.before.args.x
 value c =
-    let cut = c.before.cut-i64 in
-    held w64 c.clamp.result c.clamp.type-inv
+    let cut = c.before.cut_i64 in
+    held w64 c.clamp.result c.clamp.type_inv
     ∙ c.clamp.ensures
-    ∙ ap (λ (z : ℤ). clamp_z z (negsuc 2147483647) (pos 2147483647)) (held w64 cut.result cut.type-inv ∙ cut.ensures)
+    ∙ ap (λ (z : ℤ). clamp_z z (negsuc 2147483647) (pos 2147483647)) (held w64 cut.result cut.type_inv ∙ cut.ensures)
     ∙ signed-narrow 31 63 (lit≤ tt) c.before.before.args.x
 
 cast-result : tie.Need-overflow_cast-result

@@ -19,7 +19,7 @@ returns : tie.Need-returns-then-not-x
 unfolding of_bits neg
 returns c =
     let s = c.before.before in
-    held w64 c.cut_i64.result c.cut_i64.type-inv
+    held w64 c.cut_i64.result c.cut_i64.type_inv
     ∙ c.cut_i64.ensures
     ∙ stays-below s.args.x (subst T (sym s.well-formed.0.1) tt) (subst T (sym c.before.if-not-x.true) tt)
 
@@ -30,7 +30,7 @@ returns-2 : tie.Need-returns-then-not-x-2
 unfolding of_bits neg
 returns-2 c =
     let s = c.before.before.before in
-    held w64 c.cut_i64-then-not-x-2.result c.cut_i64-then-not-x-2.type-inv
+    held w64 c.cut_i64-then-not-x-2.result c.cut_i64-then-not-x-2.type_inv
     ∙ c.cut_i64-then-not-x-2.ensures
     ∙ stays-above s.args.x (subst T (sym s.well-formed.0.1) tt) (subst T (sym c.before.if-not-x-2.true) tt)
 
@@ -51,7 +51,7 @@ truncating-f64-to-i64-requires c κs = ((halved c).doubled.low, (halved c).doubl
 -- what the code halves
 twice : (c : tie.After-truncating_f64_to_i64-twice)
     → to_z w64 (of_z w64 c.truncating_f64_to_i64-twice.result) ≡ signed (halved c.before).sign (halved c.before).twice
-twice c = held w64 c.truncating_f64_to_i64-twice.result c.truncating_f64_to_i64-twice.type-inv ∙ c.truncating_f64_to_i64-twice.ensures ∙ (halved c.before).doubled.cut
+twice c = held w64 c.truncating_f64_to_i64-twice.result c.truncating_f64_to_i64-twice.type_inv ∙ c.truncating_f64_to_i64-twice.ensures ∙ (halved c.before).doubled.cut
 
 div-result : tie.Need-nonzero_div-result
 div-result c = let h = halved c.before in (lit< tt, quotient_fits h.sign h.twice h.small (twice c))

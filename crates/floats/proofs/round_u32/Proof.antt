@@ -18,10 +18,10 @@ clamp-requires c κs = search rules
 
 value : (c : tie.After-clamp) → to_z w64 (of_z w64 c.clamp.result) ≡ pos (to_unsigned 32 (round_away c.before.before.args.x))
 value c =
-    let away = c.before.round-i64 in
-    held w64 c.clamp.result c.clamp.type-inv
+    let away = c.before.round_i64 in
+    held w64 c.clamp.result c.clamp.type_inv
     ∙ c.clamp.ensures
-    ∙ ap (λ (z : ℤ). clamp_z z (pos 0) (pos 4294967295)) (held w64 away.result away.type-inv ∙ away.ensures)
+    ∙ ap (λ (z : ℤ). clamp_z z (pos 0) (pos 4294967295)) (held w64 away.result away.type_inv ∙ away.ensures)
     ∙ unsigned-narrow 32 63 (lit≤ tt) (round_away c.before.before.args.x)
 
 cast-result : tie.Need-overflow_cast-result

@@ -23,10 +23,10 @@ clamp-requires c κs = search rules
 -- the clamped number, as the cast of the wider float
 clamped : (c : tie.After-clamp) → to_z w64 (of_z w64 c.clamp.result) ≡ to_signed 11 (round_away c.before.before.f32_to_f64_with_nan-scaled.result)
 clamped c =
-    let away = c.before.round-i64 in
-    held w64 c.clamp.result c.clamp.type-inv
+    let away = c.before.round_i64 in
+    held w64 c.clamp.result c.clamp.type_inv
     ∙ c.clamp.ensures
-    ∙ ap (λ (z : ℤ). clamp_z z (negsuc 2047) (pos 2047)) (held w64 away.result away.type-inv ∙ away.ensures)
+    ∙ ap (λ (z : ℤ). clamp_z z (negsuc 2047) (pos 2047)) (held w64 away.result away.type_inv ∙ away.ensures)
     ∙ signed-narrow 11 63 (lit≤ tt) (round_away c.before.before.f32_to_f64_with_nan-scaled.result)
 
 cast-result : tie.Need-overflow_cast-result

@@ -70,12 +70,12 @@ loop-less c = search rules
 
 loop-again : tie.Need-loop-n-preserved invariant-loop decreases-loop
 loop-again c =
-    let l = c.before.before.before.loop in
+    let l = c.before.before.before.loop-n in
     let a = c.before.before.before.before.before.before.before.args in
     let made = c.component in
     let next : List ℤ = map component_of a.floats.now in
     let is : to_z w16 (of_z w16 made.result) ≡ get_or next l.n (component_of nan) =
-    held w16 made.result made.type-inv ∙ made.ensures ∙ sym (get_or-map component_of a.floats.now l.n nan) in
+    held w16 made.result made.type_inv ∙ made.ensures ∙ sym (get_or-map component_of a.floats.now l.n nan) in
     let one : l.n + 1 ≡ suc l.n = add-one l.n in (
       omega arith,
       length-set l.values l.n (to_z w16 (of_z w16 made.result)) ∙ l.invariant.1,
@@ -91,7 +91,7 @@ returns-3 : tie.Need-returns invariant-loop decreases-loop
 unfolding sample_answer
 returns-3 c =
     let a = c.before.before.before.before.before.args in
-    let l = c.before.loop in
+    let l = c.before.loop-n in
     let floats = a.floats.now in
     let values = a.values.now in
     let next : List ℤ = map component_of floats in

@@ -50,7 +50,7 @@ loop-again : tie.Need-loop-n-preserved invariant-loop decreases-loop
 loop-again c =
     let k = c.before in
     let a = k.before.before.before.before.before.before.before.args in
-    let l = k.before.before.before.before.loop in
+    let l = k.before.before.before.before.loop-n in
     let is = simp (held w64 (at a.places.now l.n) (search rules)) at k.is_kind.ensures in
     so-far-step a.kinds.now a.places.now l.invariant (omega arith) (omega arith) (c.both-good.ensures ∙ ap (λ (t : Bool). l.good && t) is)
 

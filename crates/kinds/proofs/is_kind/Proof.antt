@@ -22,10 +22,10 @@ both-requires c κs = search rules
 returns : tie.Need-returns
 unfolding is_kind
 returns c =
-    let least = c.before.before.least-of in
-    let most = c.before.most-of in
+    let least = c.before.before.least_of in
+    let most = c.before.most_of in
     let v = c.before.before.before.args.v in
-    let told = simp (held w64 v (search rules), held w64 least.result least.type-inv, held w64 most.result most.type-inv) at c.both.ensures in
+    let told = simp (held w64 v (search rules), held w64 least.result least.type_inv, held w64 most.result most.type_inv) at c.both.ensures in
     told ∙ (λ t. le_z (least.ensures t) v && le_z v (most.ensures t))
 
 pub is_kind_spec : {M : Type 1} → statement M

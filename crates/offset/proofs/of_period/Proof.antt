@@ -73,7 +73,7 @@ parts-of-requires c κs = search rules
 returns-3 : tie.Need-returns
 returns-3 c =
     let v = c.before.before.before in
-    ap (λ (z : ℤ). record { refused = nothing; parts = z }) (held w64 c.parts_of.result c.parts_of.type-inv ∙ c.parts_of.ensures)
+    ap (λ (z : ℤ). record { refused = nothing; parts = z }) (held w64 c.parts_of.result c.parts_of.type_inv ∙ c.parts_of.ensures)
     ∙ sheet-passed _ _ (passed v.before.before.validate-verdict.ensures v.enum_told-1.given.1) (sym c.before.before.is_Within.ensures
     ∙ not-false _ c.before.if-not-is_within.false)
 

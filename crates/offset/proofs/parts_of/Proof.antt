@@ -55,7 +55,7 @@ returns c =
     let f = c.before.struct_known-1.given.1.1.0 in
     let g = c.before.before.ranges.period in
     let told : c.divide_nearest.result ≡ _ = simp (subtracted _ _ f g, to_z-of_z (product-fits _ _ f g)) at c.divide_nearest.ensures in
-    held w64 c.divide_nearest.result c.divide_nearest.type-inv ∙ told
+    held w64 c.divide_nearest.result c.divide_nearest.type_inv ∙ told
 
 pub parts_of_spec : {M : Type 1} → statement M
 parts_of_spec =

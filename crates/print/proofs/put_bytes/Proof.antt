@@ -39,7 +39,7 @@ loop-less c = omega arith
 
 loop-again : tie.Need-loop-i-preserved invariant-loop decreases-loop
 loop-again c =
-    let l = c.before.before.loop in
+    let l = c.before.before.loop-i in
     let a = c.before.before.before.args in
     let s = a.s.now in
     let h : l.i < length s = c.before.loop-i-test.true in
@@ -60,7 +60,7 @@ same_length c = omega arith
 
 returns : tie.Need-returns invariant-loop decreases-loop
 returns c =
-    let l = c.before.loop in
+    let l = c.before.loop-i in
     let a = c.before.before.args in
     let s = a.s.now in
     let h : length s ≤ l.i = c.loop-i-test.false in

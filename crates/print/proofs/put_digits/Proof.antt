@@ -91,7 +91,7 @@ loop-less c = omega arith
 
 loop-again : tie.Need-loop-i-preserved invariant-loop decreases-loop
 loop-again c =
-    let l = c.before.before.before.loop in
+    let l = c.before.before.before.loop-i in
     let a = c.before.before.before.before.before.before.args in
     let last = two l.out a.at l.i l.v c.before.glyph.result c.glyph-in-loop-i.result c.before.before.loop-i-test.true
     c.before.glyph.ensures c.glyph-in-loop-i.ensures in
@@ -111,7 +111,7 @@ same_length c = simp length-set (omega arith)
 
 returns : tie.Need-returns-then-i-gt0 invariant-loop decreases-loop
 returns c =
-    let l = c.before.before.before.loop in
+    let l = c.before.before.before.loop-i in
     let w = c.before.before.before.before.width in
     let a = c.before.before.before.before.before.before.args in
     let z : l.i ≡ 1 = omega arith in (
@@ -128,7 +128,7 @@ same-length-2 c = omega arith
 
 returns-2 : tie.Need-returns invariant-loop decreases-loop
 returns-2 c =
-    let l = c.before.before.loop in
+    let l = c.before.before.loop-i in
     let w = c.before.before.before.width in
     let a = c.before.before.before.before.before.args in
     let z : l.i ≡ 0 = omega arith in

@@ -18,7 +18,7 @@ use Rattle.print.proofs.put_end.Tie as tie
 returns : tie.Need-returns-then-out-at
 returns c =
     let a = c.before.before.args in
-    W.nothing_put 70 a.at a.out-1.now (end_of a.samples a.symbols a.t) (omega arith)
+    W.nothing_put 70 a.at a.out.now (end_of a.samples a.symbols a.t) (omega arith)
 
 sub-if2 : tie.Need-overflow_sub-out
 sub-if2 c = search rules
@@ -26,7 +26,7 @@ sub-if2 c = search rules
 returns-2 : tie.Need-returns-then-out-at-lt70
 returns-2 c =
     let a = c.before.before.before.args in
-    W.nothing_put 70 a.at a.out-1.now (end_of a.samples a.symbols a.t) (omega arith)
+    W.nothing_put 70 a.at a.out.now (end_of a.samples a.symbols a.t) (omega arith)
 
 slice-aggregate-put-bytes : tie.Need-slice-aggregate-put-bytes
 slice-aggregate-put-bytes c = search rules
@@ -78,14 +78,14 @@ returns-3 c =
     let two = W.joined p1.put_bytes-p.ensures p2.put_digits-p.ensures.0 in
     let four = W.joined (W.joined two p3.put_bytes-p-2.ensures) p4.put_digits-p-2.ensures.0 in
     let all = W.joined (W.joined (W.joined four p5.put_bytes-p-3.ensures) p6.put_number-p.ensures.0) p7.put_bytes.ensures in
-    let line : Put (end_of a.samples a.symbols a.t) a.out-1.now a.at p7.put_bytes.result p7.put_bytes.new.1.0 =
-    subst (λ (z : ℤ). Put (end_of a.samples a.symbols z) a.out-1.now a.at p7.put_bytes.result p7.put_bytes.new.1.0)
+    let line : Put (end_of a.samples a.symbols a.t) a.out.now a.at p7.put_bytes.result p7.put_bytes.new.out =
+    subst (λ (z : ℤ). Put (end_of a.samples a.symbols z) a.out.now a.at p7.put_bytes.result p7.put_bytes.new.out)
     (to_z-of_z s.ranges.t)
-    (subst (λ (t : List ℕ). Put t a.out-1.now a.at p7.put_bytes.result p7.put_bytes.new.1.0)
+    (subst (λ (t : List ℕ). Put t a.out.now a.at p7.put_bytes.result p7.put_bytes.new.out)
     (W.end-text a.samples a.symbols (to_z w64 (of_z w64 a.t))) all) in
-    let fits : a.at + 70 ≤ length a.out-1.now = omega (arith, p1.before.before.before.if-out-at-lt70.false, p1.before.before.before.before.if-out-at.false) in
-    subst (λ (t : List ℕ). Put t a.out-1.now a.at p7.put_bytes.result p7.put_bytes.new.1.0)
-    (sym (W.with-room 70 a.at a.out-1.now (end_of a.samples a.symbols a.t) fits)) line
+    let fits : a.at + 70 ≤ length a.out.now = omega (arith, p1.before.before.before.if-out-at-lt70.false, p1.before.before.before.before.if-out-at.false) in
+    subst (λ (t : List ℕ). Put t a.out.now a.at p7.put_bytes.result p7.put_bytes.new.out)
+    (sym (W.with-room 70 a.at a.out.now (end_of a.samples a.symbols a.t) fits)) line
 
 pub put_end_spec : {M : Type 1} → statement M
 put_end_spec =

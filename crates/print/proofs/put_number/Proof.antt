@@ -44,7 +44,7 @@ returns c =
     let e : decimal m.result ≡ text_of z =
     ap decimal (m.ensures ∙ ap magnitude_of (to_z-of_z s.ranges.z))
     ∙ sym (W.text-up z (subst (λ (y : ℤ). le_z (pos 0) y ≡ true) (to_z-of_z s.ranges.z) t.if-z-ge0.true)) in (
-      subst (λ (d : List ℕ). Put d s.args.out.now s.args.at p.put_digits.result p.put_digits.new.1.0) e p.put_digits.ensures.0,
+      subst (λ (d : List ℕ). Put d s.args.out.now s.args.at p.put_digits.result p.put_digits.new.out) e p.put_digits.ensures.0,
       omega arith,
     )
 
@@ -63,20 +63,20 @@ put-digits-requires-2 c κs = simp length-set (omega arith)
 same-length-2 : tie.Need-shape_of-out
 same-length-2 c =
     let a = c.before.before.before.before.before.before.before.args in
-    c.before.before.put_digits-2.auto.1.0 ∙ length-set a.out-1.now a.at 45
+    c.before.before.put_digits-2.auto.out ∙ length-set a.out.now a.at 45
 
 returns-2 : tie.Need-returns
 returns-2 c =
     let p = c.before.before in
-    let m = p.before.before.magnitude2 in
+    let m = p.before.before.magnitude-2 in
     let t = p.before.before.before in
     let s = t.before.before in
     let z = s.args.z in
     let e : 45 ∷ decimal m.result ≡ text_of z =
     ap (λ (n : ℕ). 45 ∷ decimal n) (m.ensures ∙ ap magnitude_of (to_z-of_z s.ranges.z))
     ∙ sym (W.text-down z (subst (λ (y : ℤ). le_z (pos 0) y ≡ false) (to_z-of_z s.ranges.z) t.if-z-ge0.false)) in (
-      subst (λ (d : List ℕ). Put d s.args.out.now s.args.at p.put_digits-2.result p.put_digits-2.new.1.0) e
-          (signed 45 (decimal m.result) s.args.out.now s.args.at p.put_digits-2.result p.put_digits-2.new.1.0
+      subst (λ (d : List ℕ). Put d s.args.out.now s.args.at p.put_digits-2.result p.put_digits-2.new.out) e
+          (signed 45 (decimal m.result) s.args.out.now s.args.at p.put_digits-2.result p.put_digits-2.new.out
           p.put_digits-2.ensures.0),
       omega arith,
     )

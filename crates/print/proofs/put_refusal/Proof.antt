@@ -14,7 +14,7 @@ use Rattle.print.proofs.put_refusal.Tie as tie
 returns : tie.Need-returns-then-out-at
 returns c =
     let a = c.before.before.args in
-    W.nothing_put 52 a.at a.out-1.now (refused_of a.number a.line) (omega arith)
+    W.nothing_put 52 a.at a.out.now (refused_of a.number a.line) (omega arith)
 
 sub-if2 : tie.Need-overflow_sub-out
 sub-if2 c = search rules
@@ -22,7 +22,7 @@ sub-if2 c = search rules
 returns-2 : tie.Need-returns-then-out-at-lt52
 returns-2 c =
     let a = c.before.before.before.args in
-    W.nothing_put 52 a.at a.out-1.now (refused_of a.number a.line) (omega arith)
+    W.nothing_put 52 a.at a.out.now (refused_of a.number a.line) (omega arith)
 
 slice-aggregate-put-bytes : tie.Need-slice-aggregate-put-bytes
 slice-aggregate-put-bytes c = search rules
@@ -61,11 +61,11 @@ returns-3 c =
     let a = p1.before.before.before.before.before.before.args in
     let all = W.joined (W.joined (W.joined (W.joined p1.put_bytes-p.ensures p2.put_digits-p.ensures.0) p3.put_bytes-p-2.ensures)
     p4.put_digits-p-2.ensures.0) p5.put_bytes.ensures in
-    let line : Put (refused_of a.number a.line) a.out-1.now a.at p5.put_bytes.result p5.put_bytes.new.1.0 =
-    subst (λ (t : List ℕ). Put t a.out-1.now a.at p5.put_bytes.result p5.put_bytes.new.1.0) (W.refused-text a.number a.line) all in
-    let fits : a.at + 52 ≤ length a.out-1.now = omega (arith, p1.before.before.before.if-out-at-lt52.false, p1.before.before.before.before.if-out-at.false) in
-    subst (λ (t : List ℕ). Put t a.out-1.now a.at p5.put_bytes.result p5.put_bytes.new.1.0)
-    (sym (W.with-room 52 a.at a.out-1.now (refused_of a.number a.line) fits)) line
+    let line : Put (refused_of a.number a.line) a.out.now a.at p5.put_bytes.result p5.put_bytes.new.out =
+    subst (λ (t : List ℕ). Put t a.out.now a.at p5.put_bytes.result p5.put_bytes.new.out) (W.refused-text a.number a.line) all in
+    let fits : a.at + 52 ≤ length a.out.now = omega (arith, p1.before.before.before.if-out-at-lt52.false, p1.before.before.before.before.if-out-at.false) in
+    subst (λ (t : List ℕ). Put t a.out.now a.at p5.put_bytes.result p5.put_bytes.new.out)
+    (sym (W.with-room 52 a.at a.out.now (refused_of a.number a.line) fits)) line
 
 pub put_refusal_spec : {M : Type 1} → statement M
 put_refusal_spec =

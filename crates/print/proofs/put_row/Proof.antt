@@ -50,7 +50,7 @@ decreases-loop values out₀ at p₀ n₀ out p n = length values - n
 returns : tie.Need-returns-then-out-at invariant-loop decreases-loop
 returns c =
     let a = c.before.before.args in
-    W.nothing_put (22 * length a.values.now) a.at a.out-1.now (line_text a.values.now) (omega arith)
+    W.nothing_put (22 * length a.values.now) a.at a.out.now (line_text a.values.now) (omega arith)
 
 sub-if2 : tie.Need-overflow_sub-out invariant-loop decreases-loop
 sub-if2 c = search rules
@@ -58,7 +58,7 @@ sub-if2 c = search rules
 returns-2 : tie.Need-returns-then-out-at-2 invariant-loop decreases-loop
 returns-2 c =
     let a = c.before.before.before.args in
-    W.nothing_put (22 * length a.values.now) a.at a.out-1.now (line_text a.values.now) (omega arith)
+    W.nothing_put (22 * length a.values.now) a.at a.out.now (line_text a.values.now) (omega arith)
 
 loop-holds : tie.Need-loop-n-init invariant-loop decreases-loop
 loop-holds c = (refl, omega arith, omega arith, (refl, refl))
@@ -85,7 +85,7 @@ slice-write-out : tie.Need-bounds-out-p invariant-loop decreases-loop
 slice-write-out c =
     let l = c.before.before.before.before.before.before.before in
     let h : l.loop-n.n < length l.before.before.before.before.args.values.now = c.before.before.before.before.before.before.loop-n-test.true in
-    omega (arith, l.loop-n.invariant.2, c.before.before.before.put_number-p.ensures.1, c.before.before.before.put_number-p.auto.1.0)
+    omega (arith, l.loop-n.invariant.2, c.before.before.before.put_number-p.ensures.1, c.before.before.before.put_number-p.auto.out)
 
 add-p : tie.Need-overflow_add-p invariant-loop decreases-loop
 add-p c = omega (arith, slice-write-out c)
@@ -100,17 +100,17 @@ loop-again c =
     let a = l.before.before.before.before.args in
     let zs = a.values.now in
     let h : l.loop-n.n < length zs = g.before.before.before.loop-n-test.true in
-    let same : length g.put_number-p.new.1.0 ≡ length l.loop-n.out = g.put_number-p.auto.1.0 in
+    let same : length g.put_number-p.new.out ≡ length l.loop-n.out = g.put_number-p.auto.out in
     let z = get_or zs l.loop-n.n (pos 0) in
-    let put : Put (text_of z) l.loop-n.out l.loop-n.p g.put_number-p.result g.put_number-p.new.1.0 =
-    subst (λ (y : ℤ). Put (text_of y) l.loop-n.out l.loop-n.p g.put_number-p.result g.put_number-p.new.1.0)
+    let put : Put (text_of z) l.loop-n.out l.loop-n.p g.put_number-p.result g.put_number-p.new.out =
+    subst (λ (y : ℤ). Put (text_of y) l.loop-n.out l.loop-n.p g.put_number-p.result g.put_number-p.new.out)
     (held w64 z g.before.before.put_number-arg-1.given) g.put_number-p.ensures.0 in
-    let left = step zs a.out-1.now l.loop-n.out a.at l.loop-n.p l.loop-n.n g.put_number-p.result g.put_number-p.new.1.0 h put
+    let left = step zs a.out.now l.loop-n.out a.at l.loop-n.p l.loop-n.n g.put_number-p.result g.put_number-p.new.out h put
     l.loop-n.invariant.3 in (
       simp length-set (same ∙ l.loop-n.invariant.0),
       omega arith,
       simp length-set (omega (arith, same, l.loop-n.invariant.2, g.put_number-p.ensures.1)),
-      subst (λ (b : ℕ). Left zs a.out-1.now a.at (set g.put_number-p.new.1.0 g.put_number-p.result b) (g.put_number-p.result + 1)
+      subst (λ (b : ℕ). Left zs a.out.now a.at (set g.put_number-p.new.out g.put_number-p.result b) (g.put_number-p.result + 1)
           (l.loop-n.n + 1)) (sym c.behind.ensures) left,
     )
 
@@ -125,8 +125,8 @@ returns-3 c =
     let h : length zs ≤ l.loop-n.n = c.loop-n-test.false in
     let e : line_text (drop l.loop-n.n zs) ≡ [] = W.row-end zs l.loop-n.n h in
     let z : length (line_text (drop l.loop-n.n zs)) ≡ 0 = ap (λ (u : List ℕ). length u) e in
-    let fits : a.at + 22 * length zs ≤ length a.out-1.now = omega arith in
-    rw (W.with-room (22 * length zs) a.at a.out-1.now (line_text zs) fits) (record {
+    let fits : a.at + 22 * length zs ≤ length a.out.now = omega arith in
+    rw (W.with-room (22 * length zs) a.at a.out.now (line_text zs) fits) (record {
       end = omega (arith, l.loop-n.invariant.3.0, z);
       bytes = sym (l.loop-n.invariant.3.1 ∙ ap (λ (u : List ℕ). sets l.loop-n.out l.loop-n.p u) e);
     })

@@ -47,7 +47,7 @@ mul_power c = omega arith
 
 add-k : tie.Need-overflow_add-k invariant-loop decreases-loop
 add-k c =
-    let l = c.before.loop in
+    let l = c.before.loop-power in
     let h : l.k ≤ 20 = few c.before.before.args.n l.k l.power c.before.before.ranges.n.fits l.invariant in
     omega arith
 
@@ -58,12 +58,12 @@ loop-less c =
 
 loop-again : tie.Need-loop-power-preserved invariant-loop decreases-loop
 loop-again c =
-    let l = c.before.loop in
+    let l = c.before.loop-power in
     further c.before.before.args.n l.k l.power c.loop-power-test.true l.invariant
 
 returns : tie.Need-returns invariant-loop decreases-loop
 returns c =
-    let l = c.before.loop in
+    let l = c.before.loop-power in
     let n = c.before.before.args.n in
     (whole n l.k l.power c.loop-power-test.false l.invariant, few n l.k l.power c.before.before.ranges.n.fits l.invariant)
 

@@ -51,7 +51,7 @@ wrap-i32-requires : tie.Need-wrap_i32-requires
 wrap-i32-requires c κs = search rules
 
 cast-result-3 : tie.Need-overflow_cast-result-then-function-eq6
-cast-result-3 c = widens w64 tt (sfits_of {w = w32} {z = c.wrap_i32.result} c.wrap_i32.type-inv)
+cast-result-3 c = widens w64 tt (sfits_of {w = w32} {z = c.wrap_i32.result} c.wrap_i32.type_inv)
 
 returns-6 : tie.Need-returns-then-function-eq6
 returns-6 c = search rules

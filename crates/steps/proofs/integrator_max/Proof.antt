@@ -16,7 +16,7 @@ cut-i32-requires c κs = search rules
 returns : tie.Need-returns
 unfolding integrator_max of_bits
 returns c =
-    held w32 c.cut_i32.result c.cut_i32.type-inv
+    held w32 c.cut_i32.result c.cut_i32.type_inv
     ∙ c.cut_i32.ensures
     ∙ ap (λ (y : Float). to_signed 31 (mul binary64 (mul binary64 c.before.args.sps y) (two_to 24))) is-0_01
 

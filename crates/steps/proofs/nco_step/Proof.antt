@@ -20,8 +20,8 @@ wrap-i32-requires c κs = search rules
 returns : tie.Need-returns
 unfolding nco_step of_bits
 returns c =
-    let away = c.before.round-i64 in
-    held w32 c.wrap_i32.result c.wrap_i32.type-inv ∙ c.wrap_i32.ensures ∙ ap (λ (z : ℤ). wrap_i32 z) (held w64 away.result away.type-inv ∙ away.ensures)
+    let away = c.before.round_i64 in
+    held w32 c.wrap_i32.result c.wrap_i32.type_inv ∙ c.wrap_i32.ensures ∙ ap (λ (z : ℤ). wrap_i32 z) (held w64 away.result away.type_inv ∙ away.ensures)
 
 pub nco_step_spec : {M : Type 1} → statement M
 nco_step_spec = tie.close (tie.spec round-i64-requires wrap-i32-requires returns)

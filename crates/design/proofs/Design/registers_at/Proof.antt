@@ -30,10 +30,10 @@ returns : tie.Need-returns
 unfolding registers_of
 returns c =
     let n = c.before.before.before.before in
-    let nco = n.before.nco-step in
-    let integrator = c.before.integrator-max in
-    let nco-is = held w32 nco.result nco.type-inv ∙ nco.ensures in
-    let integrator-is = held w32 integrator.result integrator.type-inv ∙ integrator.ensures in
+    let nco = n.before.nco_step in
+    let integrator = c.before.integrator_max in
+    let nco-is = held w32 nco.result nco.type_inv ∙ nco.ensures in
+    let integrator-is = held w32 integrator.result integrator.type_inv ∙ integrator.ensures in
     let d = n.before.before.args.self in
     λ i. record {
       taps = d.taps;

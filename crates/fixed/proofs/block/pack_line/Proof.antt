@@ -85,7 +85,7 @@ loop-less c = search rules
 loop-again : tie.Need-loop-n-preserved invariant-loop decreases-loop
 loop-again c =
     let t = c.before.before.before.before in
-    let l = t.before.loop in
+    let l = t.before.loop-n in
     let i = narrow-is _ (at_i t) c.before.before.lower.ensures in
     let q = narrow-is _ (at-q t) c.lower-in-loop-n.ensures in
     rw (i, q) (omega arith, filled_next l.invariant.1 (omega arith))
@@ -93,7 +93,7 @@ loop-again c =
 returns : tie.Need-returns invariant-loop decreases-loop
 returns c =
     let a = c.before.before.before.before.args in
-    let l = c.before.loop in
+    let l = c.before.loop-n in
     record { long = search rules; each = λ m. choice a.taps m (λ h. l.invariant.1.first m (omega arith)) (λ h. l.invariant.1.rest m (omega arith)) }
 
 pub pack_line_spec : {M : Type 1} → statement M

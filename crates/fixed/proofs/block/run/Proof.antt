@@ -100,7 +100,7 @@ module _ (c : tie.After-push-s invariant-loop decreases-loop) where
 
   -- What was kept before the sample, and what is kept after it.
   abbrev before : Kept
-  before = let l = (at-loop turn).loop in kept l.i l.q l.e l.err l.registers l.position
+  before = let l = (at-loop turn).loop-n in kept l.i l.q l.e l.err l.registers l.position
 
   abbrev behind : Kept
   behind =
@@ -110,8 +110,8 @@ module _ (c : tie.After-push-s invariant-loop decreases-loop) where
   turns : Turn (sheet b) b.args.values.now b.args.out.now (x₀ b) before behind read c.push-s.result.made c.push-s.result.symbol
   turns = record {
     pushes = c.push-s.ensures;
-    long-e = c.push-s.auto.1.1.1.1.1.1.1.0;
-    long-err = c.push-s.auto.1.1.1.1.1.1.1.1.0;
+    long-e = c.push-s.auto.e;
+    long-err = c.push-s.auto.err;
   }
 
 emit-requires : tie.Need-emit-count-requires invariant-loop decreases-loop
@@ -147,7 +147,7 @@ loop-again c =
     let u = pushed a in
     let b = b u in
     turned-next (sheet b) b.args.values.now b.args.out.now (x₀ b) b.requires.1.0 b.requires.1.1
-    (at-loop (turn u)).loop-n.inv (below (turn u)) (read_is u) (turns u) e.emit-count.ensures e.emit-count.auto.0 a.clips_of-clips.ensures
+    (at-loop (turn u)).loop-n.inv (below (turn u)) (read_is u) (turns u) e.emit-count.ensures e.emit-count.auto.out a.clips_of-clips.ensures
 
 same_length : tie.Need-shape_of-out invariant-loop decreases-loop
 same_length c = c.before.loop-n.invariant.long

@@ -53,7 +53,7 @@ loop-less c = search rules
 loop-again : tie.Need-loop-n-preserved invariant-loop decreases-loop
 loop-again c =
     let first = c.before.before in
-    let l = first.before.before.before.before.loop in
+    let l = first.before.before.before.before.loop-n in
     let m = get_or first.before.before.before.before.before.before.before.args.t1 l.n no_pair in
     let i = first.raise in
     let q = c.raise2 in
@@ -74,7 +74,7 @@ same-length-2 c = omega arith
 
 returns : tie.Need-returns invariant-loop decreases-loop
 returns c =
-    let l = c.before.loop in
+    let l = c.before.loop-n in
     let laid = l.invariant.1 in (
       laying-all (search rules) (omega arith) laid.0 laid.1,
       record {

@@ -46,7 +46,7 @@ loop-less c = search rules
 loop-again : tie.Need-loop-n-preserved invariant-loop decreases-loop
 loop-again c =
     let a = c.before.before.before.before.before.args in
-    let l = c.before.before.before.before.loop in
+    let l = c.before.before.before.before.loop-n in
     let m = get_or a.t1 l.n no_pending in
     simp (held w32 m.e (search rules), held w32 m.err (search rules))
     (omega arith, filled_next l.invariant.1 (omega arith), filled_next l.invariant.2 (omega arith))
@@ -59,7 +59,7 @@ same-length-2 c = c.before.loop-n.invariant.2.long
 
 returns : tie.Need-returns invariant-loop decreases-loop
 returns c =
-    let l = c.before.loop in
+    let l = c.before.loop-n in
     record {
       long-e = omega arith;
       long-err = omega arith;

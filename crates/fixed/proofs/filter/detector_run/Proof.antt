@@ -160,7 +160,7 @@ returns : tie.Need-returns invariant-loop decreases-loop
 returns c =
     let b = c.before in
     let a = (start b).args in
-    let l = b.loop in
+    let l = b.loop-n in
     let e : l.n ≡ length (h b) = omega (arith, l.invariant.0, c.loop-n-test.false) in
     let f : l.n ≡ length (g b) = e ∙ sym (as_long b) in
     let in-h = subst (λ (n : ℕ). Added (h b) (i b) (q b) n a.before.h l.a) e l.invariant.1.0 in

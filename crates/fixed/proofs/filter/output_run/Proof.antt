@@ -88,7 +88,7 @@ returns : tie.Need-returns invariant-loop decreases-loop
 returns c =
     let b = c.before in
     let a = (start b).args in
-    let l = b.loop in
+    let l = b.loop-n in
     let e : l.n ≡ length (row b) = omega (arith, l.invariant.0, c.loop-n-test.false) in
     let all = subst (λ (n : ℕ). Taken (row b) a.i.now a.q.now n a.before l.s) e l.invariant.1 in
     record { of-k = taken-all all; few = taken-upto all }

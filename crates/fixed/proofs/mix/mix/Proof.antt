@@ -118,10 +118,10 @@ returns c =
     let f = s.ranges in
     let x = cos-fits c.before.before.before in
     let y = sin-fits c.before.before in
-    let u = c.before.without-scale in
-    let w = c.without-scale2 in
-    let i = held w32 u.result u.type-inv ∙ u.ensures ∙ ap unscaled (difference-is f.i x f.q y) in
-    let q = held w32 w.result w.type-inv ∙ w.ensures ∙ ap unscaled (sum_is f.i y f.q x) in
+    let u = c.before.without_scale in
+    let w = c.without_scale-2 in
+    let i = held w32 u.result u.type_inv ∙ u.ensures ∙ ap unscaled (difference-is f.i x f.q y) in
+    let q = held w32 w.result w.type_inv ∙ w.ensures ∙ ap unscaled (sum_is f.i y f.q x) in
     let at : ℕ = s.args.nco / 2 ^ 22 in
     simp (i, q, step s.requires at (omega arith), step s.requires ((at + 768) % 1024) (omega arith) ∙ wheel-mod (at + 768))
 

@@ -142,7 +142,7 @@ module _ (c : tie.After-struct_told-5-1) where
       let r = b.args.r in
       let w = b.args.w in
       let head = sym head_at.next_head-head.ensures in
-      λ t. kept (set a.i.now (head t) first.raise.result) (set a.q.now (head t) second.raise-2.result) a.e-1.now a.err-1.now
+      λ t. kept (set a.i.now (head t) first.raise.result) (set a.q.now (head t) second.raise-2.result) a.e.now a.err.now
       (record { nco = sym nco-is t; t_acc = sym (time-is b) t; v = sym (v-is b) t; period = r.period; gain_acc = r.gain_acc; symbols = r.symbols })
       (record { head = head t; oldest = w.oldest; waiting = w.waiting; samples = w.samples })
 
@@ -187,7 +187,7 @@ returns c =
     let made = w.with_symbol.ensures.0 in
     let makes = w.with_symbol.ensures.1 in
     let z : Kept =
-    kept (y d).i (y d).q w.with_symbol.new.1.1.1.1.1.1.0 w.with_symbol.new.1.1.1.1.1.1.1.0 w.with_symbol.result.registers
+    kept (y d).i (y d).q w.with_symbol.new.e w.with_symbol.new.err w.with_symbol.result.registers
     w.with_symbol.result.position in
     record {
       on = record { good = makes.on.good; samples = makes.on.samples; line = makes.on.line };

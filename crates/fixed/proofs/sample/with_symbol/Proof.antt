@@ -139,16 +139,16 @@ module _ (c : tie.After-after_symbol-position) where
   b = at moved
 
   abbrev y : Kept
-  y = kept b.args.i.now b.args.q.now joined.join.last.0 joined.join.last.1.0 moved.after_symbol-stepped.result.registers
+  y = kept b.args.i.now b.args.q.now joined.join.new.e joined.join.new.err moved.after_symbol-stepped.result.registers
       c.after_symbol-position.result
 
   -- the queue with the symbol's errors
-  timing-queued : joined.join.last.0 ≡ set b.args.e.now ((b.args.w.oldest + b.args.w.waiting) % ring_places) made.make-symbol.result.e
+  timing-queued : joined.join.new.e ≡ set b.args.e.now ((b.args.w.oldest + b.args.w.waiting) % ring_places) made.make-symbol.result.e
   timing-queued =
       joined.join.ensures.0
       ∙ ap (set b.args.e.now _) (held w32 made.make-symbol.result.e joined.before.before.struct_told-2-1.given.1.1.1.1.1.1.1.1.1.1.1.0.1)
 
-  gain-queued : joined.join.last.1.0 ≡ set b.args.err.now ((b.args.w.oldest + b.args.w.waiting) % ring_places) made.make-symbol.result.err
+  gain-queued : joined.join.new.err ≡ set b.args.err.now ((b.args.w.oldest + b.args.w.waiting) % ring_places) made.make-symbol.result.err
   gain-queued =
       joined.join.ensures.1
       ∙ ap (set b.args.err.now _) (held w32 made.make-symbol.result.err joined.before.struct_told-3-1.given.1.1.1.1.1.1.1.1.1.1.1.1.0.1)

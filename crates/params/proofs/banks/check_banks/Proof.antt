@@ -25,7 +25,7 @@ enum-known-in-h c = search rules
 returns : tie.Need-returns-in-Refused
 unfolding bank_faults
 returns c =
-    let h = c.before.before.before.check-rows in
+    let h = c.before.before.before.check_rows-a in
     let e = c.before.in_h-1.given in
     let f : First _ (error_refusal e.0.0) = stop (error-numbered e.0.0) (refused h.ensures.0 e.1) in
     f.is
@@ -46,7 +46,7 @@ enum-known-in-g c = search rules
 returns-2 : tie.Need-returns-in-Refused-in_g
 unfolding bank_faults
 returns-2 c =
-    let g = c.before.before.before.check-rows2 in
+    let g = c.before.before.before.check_rows-b in
     let e = c.before.in_g-1.given in
     let f : First _ (error_refusal e.0.0) =
     skip (in-h c.before.before.before.before) (stop (error-numbered e.0.0) (refused g.ensures.0 e.1)) in
@@ -69,7 +69,7 @@ enum-known-in-k c = search rules
 returns-3 : tie.Need-returns-in-Refused-in_k
 unfolding bank_faults
 returns-3 c =
-    let k = c.before.before.before.check-rows3 in
+    let k = c.before.before.before.check_rows-c in
     let b = c.before.before.before.before in
     let e = c.before.in_k-1.given in
     let f : First _ (error_refusal e.0.0) =

@@ -80,7 +80,7 @@ unfolding taps cs phase
 returns c =
     let r = c.before.before.before in
     let a = r.before.before.before.args in
-    let l = r.before.before.loop in
+    let l = r.before.before.loop-phase in
     let told = c.row_error.ensures ∙ ap (λ (row : List ℤ). first_of (row_faults a.bank l.phase row)) (part r) in
     let some = error-numbered c.row_error.result in
     let first = rows-first a.taps a.cs.now a.bank l.phase (omega arith) l.invariant.2 (subst (λ (q : Refusal). 0 < q.number) told some) in
@@ -106,7 +106,7 @@ loop-again c =
     let m = c.before.before in
     let r = m.before in
     let a = r.before.before.before.args in
-    let l = r.before.before.loop in
+    let l = r.before.before.loop-phase in
     let row = row_of a.taps a.cs.now l.phase in
     let light : magnitudes row ≤ 131071 = omega (arith, sum_is m) in (
       omega arith,
@@ -118,7 +118,7 @@ loop-again c =
 returns-2 : tie.Need-returns invariant-loop decreases-loop
 returns-2 c =
     let a = c.before.before.args in
-    let l = c.before.loop in
+    let l = c.before.loop-phase in
     let e : l.phase ≡ 64 = omega arith in (
       sym (ap (λ (n : ℕ). first_of (rows_faults a.taps a.bank a.cs.now 0 n)) (sym e) ∙ ap first_of l.invariant.2),
       λ t q. l.invariant.3 t ∙ ap (rows_outside a.taps a.cs.now 0) e,

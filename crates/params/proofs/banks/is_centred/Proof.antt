@@ -30,7 +30,7 @@ magnitude-sum-requires c κs = search rules
 returns-2 : tie.Need-returns
 returns-2 c =
     let a = c.before.before.before.before.args in
-    let d = c.before.before.detector-of in
+    let d = c.before.before.detector_of-d in
     let row = a.row.now in
     let high : d.result.high - d.result.low ≡ min 8 (length row) = omega (arith, d.ensures) in
     let sum : c.magnitude_sum.result ≡ magnitudes (take (d.result.high - d.result.low) (drop d.result.low row)) = c.magnitude_sum.ensures in

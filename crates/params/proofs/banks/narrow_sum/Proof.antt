@@ -53,7 +53,7 @@ loop-again : tie.Need-loop-i-preserved invariant-loop decreases-loop
 loop-again c =
     let b = c.before.before.before.before in
     let row = b.before.args.row.now in
-    let l = b.loop in
+    let l = b.loop-i in
     let one : c.before.magnitude.result ≡ nat_abs (get_or row l.i (pos 0)) =
     simp (held w32 (get_or row l.i (pos 0)) c.before.before.magnitude-arg-1.given) at c.before.magnitude.ensures in
     rw (c.with_magnitude-s.ensures, one) (

@@ -45,7 +45,7 @@ high c t e = not-less (pos 131071) (value c) t (simp (read c) at e)
 returns : tie.Need-returns-then-value-ltminus131072 invariant-loop decreases-loop
 returns c =
     let a = c.before.before.before.before.args in
-    let l = c.before.before.before.loop in
+    let l = c.before.before.before.loop-i in
     let wide : within (negsuc 131071) (pos 131071) (value c.before) ≡ false =
     ap (λ (b : Bool). b && le_z (value c.before) (pos 131071)) (low c.before true c.if-value-ltminus131072.true) in
     simp (read c.before) (sym (coefficient-first a.bank a.phase a.row.now l.i (omega arith) l.invariant.1 wide))
@@ -57,7 +57,7 @@ passed b c e = ap (λ (x : Bool). x && le_z (value c.before) (pos 131071)) (low 
 returns-2 : tie.Need-returns-then-value-gt131071 invariant-loop decreases-loop
 returns-2 c =
     let a = c.before.before.before.before.before.args in
-    let l = c.before.before.before.before.loop in
+    let l = c.before.before.before.before.loop-i in
     let wide = passed false c.before (high c.before.before true c.if-value-gt131071.true) in
     simp (read c.before.before) (sym (coefficient-first a.bank a.phase a.row.now l.i (omega arith) l.invariant.1 wide))
 
@@ -70,7 +70,7 @@ loop-less c = search rules
 loop-again : tie.Need-loop-i-preserved invariant-loop decreases-loop
 loop-again c =
     let a = c.before.before.before.before.before.args in
-    let l = c.before.before.before.before.loop in
+    let l = c.before.before.before.before.loop-i in
     let fits = passed true c.before (high c.before.before false c.if-value-gt131071.false) in
     let e : l.i + 1 ≡ suc l.i = omega arith in
     (omega arith, rw e (coefficients-suc a.bank a.phase a.row.now l.i (omega arith) l.invariant.1 fits))
@@ -78,7 +78,7 @@ loop-again c =
 returns-3 : tie.Need-returns invariant-loop decreases-loop
 returns-3 c =
     let a = c.before.before.args in
-    let l = c.before.loop in
+    let l = c.before.loop-i in
     let row = a.row.now in
     let none : coefficient_faults a.bank a.phase row ≡ [] = ap (coefficient_faults a.bank a.phase) (sym (take_all l.i row (omega arith)))
     ∙ l.invariant.1 in

@@ -33,10 +33,10 @@ u8-at-requires-3 c κs = looked c.before.before.before.before 7 (lit< tt)
 returns : tie.Need-returns
 unfolding gains_at
 returns c =
-    let ki = c.before.before.i16-at2 in
-    let kp = c.before.before.before.before.i16-at in
-    let kp-is = held w16 kp.result kp.type-inv ∙ kp.ensures in
-    let ki-is = held w16 ki.result ki.type-inv ∙ ki.ensures in
+    let ki = c.before.before.i16_at-2 in
+    let kp = c.before.before.before.before.i16_at in
+    let kp-is = held w16 kp.result kp.type_inv ∙ kp.ensures in
+    let ki-is = held w16 ki.result ki.type_inv ∙ ki.ensures in
     λ i.
     record {
       kp = kp-is i;

@@ -31,9 +31,9 @@ unfolding registers_at
 returns c = λ i.
     record {
       nco = c.before.before.before.before.before.u32_at.ensures i;
-      t_acc = (held w64 c.before.before.before.before.i64_at.result c.before.before.before.before.i64_at.type-inv
+      t_acc = (held w64 c.before.before.before.before.i64_at.result c.before.before.before.before.i64_at.type_inv
           ∙ c.before.before.before.before.i64_at.ensures) i;
-      v = (held w64 c.before.before.before.i64_at-2.result c.before.before.before.i64_at-2.type-inv ∙ c.before.before.before.i64_at-2.ensures) i;
+      v = (held w64 c.before.before.before.i64_at-2.result c.before.before.before.i64_at-2.type_inv ∙ c.before.before.before.i64_at-2.ensures) i;
       period = c.before.before.u32_at-2.ensures i;
       gain_acc = c.before.u32_at-3.ensures i;
       symbols = c.count_at.ensures i;

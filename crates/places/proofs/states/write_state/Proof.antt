@@ -135,8 +135,8 @@ returns-5 c =
     let e = first.before.before.before.before.before in
     let s = start e.before.before.before in
     let a = s.args in
-    let places = parts a.f a.places-1.now first.write_first.new.1.0 sheet.write.new.1.0
-    (first.write_first.auto.1.0 ∙ e.before.before.before.before.before.if-places-ne28.false) first.write_first.ensures sheet.write.ensures in
+    let places = parts a.f a.places.now first.write_first.new.places sheet.write.new.sheet
+    (first.write_first.auto.places ∙ e.before.before.before.before.before.if-places-ne28.false) first.write_first.ensures sheet.write.ensures in
     writes a.f (given s) (rw (long e.before.before.before, small e) refl)
     (λ i. slices (places i) (line.write_line.ensures i) (errors.write_pending.ensures i))
 

@@ -46,11 +46,11 @@ returns : tie.Need-returns-then-n-values
 unfolding pair_at
 returns c =
     let s = c.before.before.before in
-    let first = c.before.narrow-i16 in
-    let second = c.narrow-i162 in
+    let first = c.before.narrow_i16-first in
+    let second = c.narrow_i16-second in
     let i : first.result ≡ narrow_i16 s.args.i = simp (to_z-of_z s.ranges.i) at first.ensures in
     let q : second.result ≡ narrow_i16 s.args.q = simp (to_z-of_z s.ranges.q) at second.ensures in
-    simp (held w16 first.result first.type-inv ∙ i, held w16 second.result second.type-inv ∙ q, lt-ltb _ _ c.before.before.if-n-values.true)
+    simp (held w16 first.result first.type_inv ∙ i, held w16 second.result second.type_inv ∙ q, lt-ltb _ _ c.before.before.if-n-values.true)
 
 returns-2 : tie.Need-returns-else-n-values
 unfolding pair_at

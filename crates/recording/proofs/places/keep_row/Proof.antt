@@ -69,7 +69,7 @@ loop-again c =
     let start = l.before.before.least-start.result in
     let z = get_or a.row.now l.loop-i.i (pos 0) in
     let one : c.narrow_i32-c.result ≡ narrow_i32 z = simp (held w64 z c.before.narrow_i32-arg-1.given) at c.narrow_i32-c.ensures in
-    let v = held w32 c.narrow_i32-c.result c.narrow_i32-c.type-inv ∙ one in
+    let v = held w32 c.narrow_i32-c.result c.narrow_i32-c.type_inv ∙ one in
     let next = sets-next narrow_i32 a.row.now l.loop-i.i (pos 0) l.loop-i.bank start (omega arith) in
     let left = map narrow_i32 (drop (l.loop-i.i + 1) a.row.now) in (
       simp length-set (omega arith),

@@ -35,7 +35,7 @@ moved c =
     let s = c.before.before in
     let told : c.next_v-v.result ≡ _ =
     simp (held w64 s.args.r.v (search c.before.struct_told-1.given depth 40), to_z-of_z s.ranges.e) at c.next_v-v.ensures in
-    held w64 c.next_v-v.result c.next_v-v.type-inv ∙ told
+    held w64 c.next_v-v.result c.next_v-v.type_inv ∙ told
 
 next-period-requires : tie.Need-next_period-requires
 next-period-requires c κs =

@@ -42,7 +42,7 @@ sum-abs c =
 add-clamp : tie.Need-overflow_add-acc
 add-clamp c =
     let s = c.before.before in
-    simp (whole s.args.acc s.ranges.acc, held w64 c.shift_right.result c.shift_right.type-inv) (sfit (sum-abs c))
+    simp (whole s.args.acc s.ranges.acc, held w64 c.shift_right.result c.shift_right.type_inv) (sfit (sum-abs c))
 
 clamp-requires : tie.Need-clamp-requires
 clamp-requires c κs = search rules
@@ -54,9 +54,9 @@ clamped : (c : tie.After-clamp)
 clamped c =
     let a = c.before in
     let s = a.before.before in
-    let sum = simp (whole s.args.acc s.ranges.acc, held w64 a.shift_right.result a.shift_right.type-inv) at c.clamp.ensures in
-    let told : c.clamp.result ≡ _ = simp (back w64 (pos s.args.acc +ℤ a.shift_right.result) (sum-abs a)) at sum in
-    simp (held w64 c.clamp.result c.clamp.type-inv) (simp (shifted a) at told)
+    let sum = simp (whole s.args.acc s.ranges.acc, held w64 a.shift-right.result a.shift-right.type_inv) at c.clamp.ensures in
+    let told : c.clamp.result ≡ _ = simp (back w64 (pos s.args.acc +ℤ a.shift-right.result) (sum-abs a)) at sum in
+    simp (held w64 c.clamp.result c.clamp.type_inv) (simp (shifted a) at told)
 
 cast-result : tie.Need-overflow_cast-result
 cast-result c = rw (clamped c) (clamp-unsigned _ 0 16777215 (record { fits = lit< tt }) (record { fits = lit< tt }))

@@ -68,7 +68,7 @@ sum-abs c =
     rw (scaled-is c) (omega (arith, base-abs c.before.before, abs-add (base s) moved, scaled-abs shift (kp-fits c.before) s.ranges.e))
 
 add-clamp : tie.Need-overflow_add-base-2
-add-clamp c = simp (base-is c.before.before, held w64 c.scaled.result c.scaled.type-inv) (sfit (sum-abs c))
+add-clamp c = simp (base-is c.before.before, held w64 c.scaled.result c.scaled.type_inv) (sfit (sum-abs c))
 
 -- ---- the clamp
 
@@ -97,9 +97,9 @@ clamped c =
     let s = a.before.before.before in
     let low = whole s.args.p.period_min (min-fits k) in
     let high = whole s.args.p.period_max (max-fits k) in
-    let ends = simp (base-is a.before.before, held w64 a.scaled.result a.scaled.type-inv, low, high) at c.clamp.ensures in
+    let ends = simp (base-is a.before.before, held w64 a.scaled.result a.scaled.type_inv, low, high) at c.clamp.ensures in
     let told : c.clamp.result ≡ _ = simp (back w64 (base s +ℤ a.scaled.result) (sum-abs a)) at ends in
-    simp (held w64 c.clamp.result c.clamp.type-inv) (simp (scaled-is a) at told)
+    simp (held w64 c.clamp.result c.clamp.type_inv) (simp (scaled-is a) at told)
 
 cast-result : tie.Need-overflow_cast-result
 cast-result c = rw (clamped c) (clamp-unsigned _ _ _ (min-fits c.before) (max-fits c.before))

@@ -48,7 +48,7 @@ sum-abs c =
     rw (scaled-is c) (omega (arith, s.requires, abs-add s.args.v moved, scaled-abs shift (ki-fits c.before) s.ranges.e))
 
 add-clamp : tie.Need-overflow_add-v
-add-clamp c = simp (to_z-of_z c.before.before.before.before.ranges.v, held w64 c.scaled.result c.scaled.type-inv) (sfit (sum-abs c))
+add-clamp c = simp (to_z-of_z c.before.before.before.before.ranges.v, held w64 c.scaled.result c.scaled.type_inv) (sfit (sum-abs c))
 
 sub-clamp : tie.Need-overflow_sub-end
 sub-clamp c = let f = max-fits c.before.before in simp (end_is f, +ℤ_idl) (low_fits f)
@@ -62,9 +62,9 @@ returns c =
     let a = c.before in
     let s = a.before.before.before.before in
     let f = max-fits a.before.before in
-    let ends = simp (end_is f, +ℤ_idl, to_z-of_z (low_fits f), to_z-of_z s.ranges.v, held w64 a.scaled.result a.scaled.type-inv) at c.clamp.ensures in
+    let ends = simp (end_is f, +ℤ_idl, to_z-of_z (low_fits f), to_z-of_z s.ranges.v, held w64 a.scaled.result a.scaled.type_inv) at c.clamp.ensures in
     let told : c.clamp.result ≡ _ = simp (back w64 (s.args.v +ℤ a.scaled.result) (sum-abs a)) at ends in
-    held w64 c.clamp.result c.clamp.type-inv ∙ simp (scaled-is a) at told
+    held w64 c.clamp.result c.clamp.type_inv ∙ simp (scaled-is a) at told
 
 pub next_v_spec : {M : Type 1} → statement M
 next_v_spec =

@@ -15,7 +15,7 @@ returns : tie.Need-returns
 returns c =
     let f = c.before.ranges in
     let told : c.round_product.result ≡ _ = simp (to_z-of_z f.gain, to_z-of_z f.e) at c.round_product.ensures in
-    held w64 c.round_product.result c.round_product.type-inv ∙ told
+    held w64 c.round_product.result c.round_product.type_inv ∙ told
 
 pub scaled_spec : {M : Type 1} → statement M
 scaled_spec = tie.close (tie.spec round-product-requires returns)

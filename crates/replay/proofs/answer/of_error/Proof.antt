@@ -63,14 +63,14 @@ returns c =
     let x = known.e-1.given in
     let value = x.0.1.1.0 in
     let wide : c.before.wide.result ≡ value = simp (held w32 value (search c.before.before.known_told-1.given depth 40)) at c.before.wide.ensures in
-    let row = simp (held w64 c.before.wide.result c.before.wide.type-inv) at c.of_row.ensures in
+    let row = simp (held w64 c.before.wide.result c.before.wide.type_inv) at c.of_row.ensures in
     row ∙ (λ i. carries_three (numbered known.before.before x.1 i) (pos x.0.0) (signed_bits x.0.1.0) (wide i)) ∙ sym (ap of_error x.1)
 
 returns-2 : tie.Need-returns-in-CoefficientSum
 returns-2 c =
     let known = c.before.before.before in
     let x = known.e-in-CoefficientSum-1.given in
-    let row = simp (held w64 c.before.i64_of.result c.before.i64_of.type-inv) at c.of_row-in-CoefficientSum.ensures in
+    let row = simp (held w64 c.before.i64_of.result c.before.i64_of.type_inv) at c.of_row-in-CoefficientSum.ensures in
     row ∙ (λ i. carries_three (numbered known.before.before x.1 i) (pos x.0.0) (signed_bits x.0.1.0) (c.before.i64_of.ensures i))
     ∙ sym (ap of_error x.1)
 

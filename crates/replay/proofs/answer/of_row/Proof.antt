@@ -15,7 +15,7 @@ i64-of-requires c κs = search rules
 
 returns : tie.Need-returns
 returns c =
-    simp (held w64 c.i64_of.result c.i64_of.type-inv, to_z-of_z c.before.ranges.carried, to_z_pos w64 {n = c.before.args.bank} (omega arith))
+    simp (held w64 c.i64_of.result c.i64_of.type_inv, to_z-of_z c.before.ranges.carried, to_z_pos w64 {n = c.before.args.bank} (omega arith))
     (simp c.i64_of.ensures)
 
 pub of_row_spec : {M : Type 1} → statement M

@@ -40,11 +40,11 @@ both n left = omega arith
 returns : tie.Need-returns
 returns c =
     let row = c.before.keep_row.ensures in
-    let start = c.before.before.before.before.least2 in
+    let start = c.before.before.before.before.least-start in
     let most = c.before.before.before.before.before.least in
     let a = c.before.before.before.before.before.before.args in
     let cs = a.coefficients.now in
-    let places = length a.room-1.now in
+    let places = length a.room.now in
     let first : take most.result cs ≡ take 8192 cs = ap (λ (k : ℕ). take k cs) most.ensures ∙ take-least 8192 cs in
     let long : length (take most.result cs) ≡ min 8192 (length cs) = length-take-le most.result cs (omega arith) ∙ most.ensures in (
       ap (λ (r : ℕ). r - start.result) row.0
@@ -52,7 +52,7 @@ returns c =
           ∙ ap (λ (s : ℕ). min (a.from + min 8192 (length cs)) places - s) start.ensures
           ∙ filled a.from (min 8192 (length cs)) places
           ∙ both (length cs) (places - min a.from places),
-      row.1 ∙ ap (λ (l : List ℤ). sets a.room-1.now a.from (map narrow_i32 l)) first,
+      row.1 ∙ ap (λ (l : List ℤ). sets a.room.now a.from (map narrow_i32 l)) first,
     )
 
 pub keep_spec : {M : Type 1} → statement M

@@ -17,14 +17,14 @@ decreases-loop bytes row₀ at₀ number₀ column₀ row at number column = len
 -- the row that the loop begins with is the one that the cursor stands in, or a new one
 begins : (c : tie.At-loop-at invariant-loop decreases-loop) →
     let a = c.before.before.before.before.args in
-    row_read a.self a.bytes.now a.row-1.now
-    ≡ with_bytes (read (within a.self.at c.before.if-self.column a.self.number) a.row-1.now) (drop a.self.at a.bytes.now)
+    row_read a.self a.bytes.now a.row.now
+    ≡ with_bytes (read (within a.self.at c.before.if-self.column a.self.number) a.row.now) (drop a.self.at a.bytes.now)
 unfolding row_read
 begins c =
     let a = c.before.before.before.before.args in
     let column : c.before.if-self.column ≡ cond a.self.ended 0 a.self.column =
     ⊎_elim (λ w. simp w.0.taken w.1) (λ w. simp w.0.left w.1) c.before.if-self.branch in
-    λ i. with_bytes (read (within a.self.at (sym column i) a.self.number) a.row-1.now) (drop a.self.at a.bytes.now)
+    λ i. with_bytes (read (within a.self.at (sym column i) a.self.number) a.row.now) (drop a.self.at a.bytes.now)
 
 -- behind a number that has ended: where the turn began, and the test of the byte
 abbrev turn : tie.After-new-number invariant-loop decreases-loop → tie.At-loop-at invariant-loop decreases-loop

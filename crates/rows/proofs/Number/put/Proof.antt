@@ -22,7 +22,7 @@ same_length c = search rules
 returns : tie.Need-returns-then-column-row
 returns c =
     let a = c.before.before.args in
-    ap (λ (z : ℤ). set a.row.now a.column z) (held w64 c.value-v.result c.value-v.type-inv ∙ c.value-v.ensures)
+    ap (λ (z : ℤ). set a.row.now a.column z) (held w64 c.value-v.result c.value-v.type_inv ∙ c.value-v.ensures)
 
 returns-2 : tie.Need-returns-else-column-row
 returns-2 c =

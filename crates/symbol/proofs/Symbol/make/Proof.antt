@@ -132,13 +132,13 @@ returns c =
     let z' = (after-z err).amplify-z_fit.ensures ∙ ap loud y' in
     let dz' = (after-dz err).amplify-dz_fit.ensures ∙ ap loud dy' in
     let zk' = (after-zk err).amplify-zk_fit.ensures ∙ ap loud yk' in
-    let i' = component a.p k.i (search qi.before.struct_told-1.given) qi.quantise.ensures qi.quantise.type-inv
+    let i' = component a.p k.i (search qi.before.struct_told-1.given) qi.quantise.ensures qi.quantise.type_inv
     ∙ ap (λ (x : Fitted). quantised a.p x.output.i) zk' in
-    let q' = component a.p k.q (search qq.before.struct_told-2-1.given) qq.quantise-2.ensures qq.quantise-2.type-inv
+    let q' = component a.p k.q (search qq.before.struct_told-2-1.given) qq.quantise-2.ensures qq.quantise-2.type_inv
     ∙ ap (λ (x : Fitted). quantised a.p x.output.q) zk' in
-    let e' = held w32 e.timing_error.result e.timing_error.type-inv ∙ e.timing_error.ensures
+    let e' = held w32 e.timing_error.result e.timing_error.type_inv ∙ e.timing_error.ensures
     ∙ (λ t. timing_error a.p (z' t).output (dz' t).output) in
-    let err' = held w32 err.agc_error.result err.agc_error.type-inv ∙ err.agc_error.ensures ∙ ap (λ (x : Fitted). gain_error a.p x.output) zk' in
+    let err' = held w32 err.agc_error.result err.agc_error.type_inv ∙ err.agc_error.ensures ∙ ap (λ (x : Fitted). gain_error a.p x.output) zk' in
     λ t. record {
       sample = a.sample;
       phase = a.phase;

@@ -93,8 +93,8 @@ returns : tie.Need-returns
 unfolding gain_error
 returns c =
     let n = numbers c.before in
-    let r = c.wrap-i32 in
-    held w32 r.result r.type-inv ∙ r.ensures
+    let r = c.wrap_i32 in
+    held w32 r.result r.type_inv ∙ r.ensures
     ∙ ap wrap_i32 (ap (λ (z : ℤ). in64 z) (lack-is n.i n.q n.target) ∙ to_z-of_z (lack-fits n.i n.q n.target))
 
 pub agc_error_spec : {M : Type 1} → statement M

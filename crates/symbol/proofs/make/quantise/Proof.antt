@@ -120,7 +120,7 @@ clamped : (c : tie.After-clamp)
     c.clamp.result ≡ clamp_z (round_shift a.v a.p.q_shift) (neg_ℤ (pos (2 ^ j))) (pos (2 ^ j - 1))
 unfolding one
 clamped c =
-    let r = c.before.round-product in
+    let r = c.before.round_product in
     let b = c.before.before.before in
     let j = b.below_sign.result in
     let h = few b in
@@ -128,7 +128,7 @@ clamped c =
     let shift : ℕ = b.before.args.p.q_shift in
     let whole : r.result ≡ round_shift (v *ℤ pos 1) shift = simp (to_z-of_z b.before.ranges.v, to_z_pos w32 {n = 1} (omega arith)) at r.ensures in
     let rounded : r.result ≡ round_shift v shift = whole ∙ ap (λ (z : ℤ). round_shift z shift) (*ℤ-one v) in
-    let ends = simp (held w64 r.result r.type-inv, end_is j h, +ℤ_idl) at c.clamp.ensures in
+    let ends = simp (held w64 r.result r.type_inv, end_is j h, +ℤ_idl) at c.clamp.ensures in
     let told : c.clamp.result ≡ _ =
     simp (high_is j h, to_z-of_z (sfits_widen {w' = w64} tt (low_fits j h)), to_z-of_z (sfits_widen {w' = w64} tt (high_fits j h))) at ends in
     simp rounded at told

@@ -76,7 +76,7 @@ is : (c : tie.After-clamp)
     a.dz
 unfolding timing_error
 is c =
-    let r = c.before.shift-right in
+    let r = c.before.shift_right in
     let k = c.before.before.before in
     let q = k.before.before in
     let d = q.before.before in
@@ -84,7 +84,7 @@ is c =
     let sum = sum_is (zi-fits d.before.before) (dzi-fits d) (zq-fits q) (dzq-fits k) in
     c.clamp.ensures
     ∙ ap (λ (z : ℤ). clamp_z z (negsuc 8388606) (pos 8388607))
-    (held w64 r.result r.type-inv ∙ r.ensures ∙ ap (λ (z : ℤ). shr_z z (2 ^ s.args.p.ted_shift)) sum)
+    (held w64 r.result r.type_inv ∙ r.ensures ∙ ap (λ (z : ℤ). shr_z z (2 ^ s.args.p.ted_shift)) sum)
 
 -- it fits 24 bits, and so 32
 error-fits : (p : Params) (z dz : Output) → SFits w32 (timing_error p z dz)

@@ -47,7 +47,7 @@ loop-less c = search rules
 loop-again : tie.Need-loop-j-preserved invariant-loop decreases-loop
 loop-again c =
     let a = c.before.before.before.args in
-    let l = c.before.before.loop in
+    let l = c.before.before.loop-j in
     let y = a.symbol.now in
     let inside : a.w + l.j < length a.out.now = omega arith in
     let one : l.j < length y = omega arith in
@@ -61,7 +61,7 @@ same_length c = c.before.loop-j.invariant.1
 returns : tie.Need-returns invariant-loop decreases-loop
 returns c =
     let a = c.before.before.args in
-    let l = c.before.loop in
+    let l = c.before.loop-j in
     let y = a.symbol.now in
     let front = take a.w a.out.now in
     let behind = drop (a.w + 20) a.out.now in

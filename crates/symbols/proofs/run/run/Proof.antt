@@ -68,9 +68,9 @@ loop-again : tie.Need-loop-turns-preserved invariant-loop decreases-loop
 loop-again c =
     let inv = (turn c).before.loop-turns.invariant in (
       (read c).Block-of.auto.1.1.1.0 ∙ inv.0,
-      (took c).with_pairs-r.auto.1.1.1.1.1.1.1.0 ∙ inv.1,
+      (took c).with_pairs-r.auto.out ∙ inv.1,
       (read c).Block-of.auto.1.1.0 ∙ inv.2,
-      (took c).with_pairs-r.auto.1.1.1.1.1.1.0 ∙ inv.3,
+      (took c).with_pairs-r.auto.places ∙ inv.3,
     )
 
 ended-requires : tie.Need-ended-requires invariant-loop decreases-loop

@@ -14,7 +14,7 @@ magnitude-requires : tie.Need-magnitude-requires
 magnitude-requires c κs = search rules
 
 returns : tie.Need-returns
-returns c = let end = c.before.least-of in c.magnitude.ensures ∙ ap magnitude_of (held w64 end.result end.type-inv ∙ end.ensures)
+returns c = let end = c.before.least_of in c.magnitude.ensures ∙ ap magnitude_of (held w64 end.result end.type_inv ∙ end.ensures)
 
 pub down_of_spec : {M : Type 1} → statement M
 down_of_spec = tie.close (tie.spec least-of-requires magnitude-requires returns)

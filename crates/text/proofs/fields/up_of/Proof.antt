@@ -14,7 +14,7 @@ magnitude-requires : tie.Need-magnitude-requires
 magnitude-requires c κs = search rules
 
 returns : tie.Need-returns
-returns c = let end = c.before.most-of in c.magnitude.ensures ∙ ap magnitude_of (held w64 end.result end.type-inv ∙ end.ensures)
+returns c = let end = c.before.most_of in c.magnitude.ensures ∙ ap magnitude_of (held w64 end.result end.type_inv ∙ end.ensures)
 
 pub up_of_spec : {M : Type 1} → statement M
 up_of_spec = tie.close (tie.spec most-of-requires magnitude-requires returns)

@@ -97,7 +97,7 @@ with-field : (c : tie.After-out-1 invariant-loop decreases-loop) (fs : List (Lis
     (drop (loop-of c).loop-n.at (loop-of c).before.before.before.args.s.now) ∷ fs
     → P.Left (loop-of c).before.before.before.args.kinds.now (loop-of c).before.before.before.args.s.now
     (loop-of c).before.before.before.args.out.now
-    c.before.put_value.new.1.0 ((loop-of c).loop-n.n + 1) c.before.before.before.before.larger-fault.result fs
+    c.before.put_value.new.out ((loop-of c).loop-n.n + 1) c.before.before.before.before.larger-fault.result fs
 with-field c fs ps =
     let l = loop-of c in
     let a = l.before.before.before.args in
@@ -117,13 +117,13 @@ with-field c fs ps =
     let right : (F.fault ≡ 2 → ⊥) = λ (z : F.fault ≡ 2). g.before.if-f-eq2.false (fault ∙ z) in
     let value : to_z w64 (of_z w64 f.field-f.result.value) ≡ F.value =
     to_z-of_z {w = w64} (record { sfits = c.before.before.struct_told-1.given.1.0.1 }) ∙ ap (λ (x : Field). x.value) same in
-    let step = P.left_step ks s a.out-1.now l.loop-n.out n l.loop-n.fault b fs
-    (subst (λ (q : List (List ℕ)). P.Left ks s a.out-1.now l.loop-n.out n l.loop-n.fault q) ps (l.loop-n.invariant.4, l.loop-n.invariant.5)) in-types right in
-    let put : c.before.put_value.new.1.0 ≡ set l.loop-n.out n F.value = c.before.put_value.ensures
+    let step = P.left_step ks s a.out.now l.loop-n.out n l.loop-n.fault b fs
+    (subst (λ (q : List (List ℕ)). P.Left ks s a.out.now l.loop-n.out n l.loop-n.fault q) ps (l.loop-n.invariant.4, l.loop-n.invariant.5)) in-types right in
+    let put : c.before.put_value.new.out ≡ set l.loop-n.out n F.value = c.before.put_value.ensures
     ∙ ap (λ (z : ℤ). set l.loop-n.out n z) value in
     let larger : g.larger-fault.result ≡ max l.loop-n.fault F.fault = g.larger-fault.ensures ∙ ap (λ (x : ℕ). max l.loop-n.fault x) fault in
-    subst (λ (q : List ℤ). P.Left ks s a.out-1.now q (n + 1) g.larger-fault.result fs) (sym put)
-    (subst (λ (m : ℕ). P.Left ks s a.out-1.now (set l.loop-n.out n F.value) (n + 1) m fs) (sym larger) step)
+    subst (λ (q : List ℤ). P.Left ks s a.out.now q (n + 1) g.larger-fault.result fs) (sym put)
+    (subst (λ (m : ℕ). P.Left ks s a.out.now (set l.loop-n.out n F.value) (n + 1) m fs) (sym larger) step)
 
 -- No fault is worse than wrong form.
 fault-still : (c : tie.After-out-1 invariant-loop decreases-loop) → c.before.before.before.before.larger-fault.result ≤ 2
@@ -142,7 +142,7 @@ number-of-requires : tie.Need-number_of-requires invariant-loop decreases-loop
 number-of-requires c κs = search rules
 
 same-length-2 : tie.Need-shape_of-out-then-n-kinds invariant-loop decreases-loop
-same-length-2 c = c.before.before.before.before.put_value.auto.1.0 ∙ (loop-of c.before.before.before).loop-n.invariant.0
+same-length-2 c = c.before.before.before.before.put_value.auto.out ∙ (loop-of c.before.before.before).loop-n.invariant.0
 
 returns-2 : tie.Need-returns-then-n-kinds invariant-loop decreases-loop
 returns-2 c =
@@ -150,16 +150,16 @@ returns-2 c =
     let l = loop-of o in
     let a = l.before.before.before.args in
     let s = a.s.now in
-    let e = l.loop in
+    let e = l.loop-n in
     let k = o.before.before.before.before.before.before.before.before.before.before in
     let ps = P.parts_last s e.at k.comma_from-end.result k.comma_from-end.ensures.0 e.invariant.1 c.before.before.if-end-s.true in
     let all : length a.kinds.now ≤ e.n + 1 = omega (arith, c.before.if-n-kinds.true) in
-    let left = P.left-whole a.kinds.now s a.out-1.now o.before.put_value.new.1.0 (e.n + 1)
+    let left = P.left-whole a.kinds.now s a.out.now o.before.put_value.new.out (e.n + 1)
     o.before.before.before.before.larger-fault.result (with-field o [] ps) all in
-    subst (λ (r : ℕ). Reading a.kinds.now s a.out-1.now r o.before.put_value.new.1.0) (sym c.number_of_lem.ensures) left
+    subst (λ (r : ℕ). Reading a.kinds.now s a.out.now r o.before.put_value.new.out) (sym c.number_of_lem.ensures) left
 
 same-length-3 : tie.Need-shape_of-out-then-end-s invariant-loop decreases-loop
-same-length-3 c = c.before.before.before.put_value.auto.1.0 ∙ (loop-of c.before.before).loop-n.invariant.0
+same-length-3 c = c.before.before.before.put_value.auto.out ∙ (loop-of c.before.before).loop-n.invariant.0
 
 returns-3 : tie.Need-returns-then-end-s invariant-loop decreases-loop
 returns-3 c =
@@ -167,11 +167,11 @@ returns-3 c =
     let l = loop-of o in
     let a = l.before.before.before.args in
     let s = a.s.now in
-    let e = l.loop in
+    let e = l.loop-n in
     let k = o.before.before.before.before.before.before.before.before.before.before in
     let ps = P.parts_last s e.at k.comma_from-end.result k.comma_from-end.ensures.0 e.invariant.1 c.before.if-end-s.true in
     let more : e.n + 1 < length a.kinds.now = omega (arith, k.before.loop-n-test.true, c.if-n-kinds.false) in
-    P.left-short a.kinds.now s a.out-1.now o.before.put_value.new.1.0 (e.n + 1) o.before.before.before.before.larger-fault.result
+    P.left-short a.kinds.now s a.out.now o.before.put_value.new.out (e.n + 1) o.before.before.before.before.larger-fault.result
     (with-field o [] ps) more (fault-still o)
 
 add_at : tie.Need-overflow_add-at invariant-loop decreases-loop
@@ -186,12 +186,12 @@ loop-again c =
     let l = loop-of o in
     let a = l.before.before.before.args in
     let s = a.s.now in
-    let e = l.loop in
+    let e = l.loop-n in
     let k = o.before.before.before.before.before.before.before.before.before.before in
     let end : k.comma_from-end.result < length s = omega (arith, k.comma_from-end.ensures.1, c.if-end-s.false) in
     let ps = P.parts_more s e.at k.comma_from-end.result k.comma_from-end.ensures.0 e.invariant.1 end in
     let left = with-field o (split_fields (drop (k.comma_from-end.result + 1) s)) ps in
-    (o.before.put_value.auto.1.0 ∙ e.invariant.0, omega arith, omega (arith, k.before.loop-n-test.true), fault-still o, left.0, left.1)
+    (o.before.put_value.auto.out ∙ e.invariant.0, omega arith, omega (arith, k.before.loop-n-test.true), fault-still o, left.0, left.1)
 
 same-length-4 : tie.Need-shape_of-out invariant-loop decreases-loop
 same-length-4 c = search rules

@@ -45,14 +45,14 @@ number_is : (c : tie.Else-at-self) → let a = c.before.before.before.before.bef
 number_is c =
     let self = c.before.before.before.before.before.args.self in
     let at = c.before.before in
-    same at.at.result _ (pos self.number) at.at.ensures at.at.type-inv (record { sfits = omega arith }) c.if-at-self.false
+    same at.at.result _ (pos self.number) at.at.ensures at.at.type_inv (record { sfits = omega arith }) c.if-at-self.false
 
 returns-2 : tie.Need-returns-then-at-self
 unfolding is_answer
 returns-2 c =
     let self = c.before.before.before.before.before.args.self in
     let at = c.before.before in
-    let is = other at.at.result _ (pos self.number) at.at.ensures at.at.type-inv (record { sfits = omega arith }) c.if-at-self.true in
+    let is = other at.at.result _ (pos self.number) at.at.ensures at.at.type_inv (record { sfits = omega arith }) c.if-at-self.true in
     simp (eq-eqb _ _ at.before.if-numbers-self.false, is)
 
 first-is : (c : tie.Else-at-self-2)
@@ -60,14 +60,14 @@ first-is : (c : tie.Else-at-self-2)
 first-is c =
     let self = c.before.before.before.before.before.before.before.before.before.args.self in
     let at = c.before.before.before in
-    same at.at-2.result _ self.first at.at-2.ensures at.at-2.type-inv (search c.before.struct_told-1.given depth 40) c.if-at-self-2.false
+    same at.at-2.result _ self.first at.at-2.ensures at.at-2.type_inv (search c.before.struct_told-1.given depth 40) c.if-at-self-2.false
 
 returns-3 : tie.Need-returns-then-at-self-2
 unfolding is_answer
 returns-3 c =
     let self = c.before.before.before.before.before.before.before.before.before.args.self in
     let at = c.before.before.before in
-    let is = other at.at-2.result _ self.first at.at-2.ensures at.at-2.type-inv (search c.before.struct_told-1.given depth 40) c.if-at-self-2.true in
+    let is = other at.at-2.result _ self.first at.at-2.ensures at.at-2.type_inv (search c.before.struct_told-1.given depth 40) c.if-at-self-2.true in
     simp (eq-eqb _ _ at.before.before.before.before.if-numbers-self.false, number_is at.before, is)
 
 second_is : (c : tie.Else-at-self-3)
@@ -76,14 +76,14 @@ second_is : (c : tie.Else-at-self-3)
 second_is c =
     let self = c.before.before.before.before.before.before.before.before.before.before.before.before.before.args.self in
     let at = c.before.before.before in
-    same at.at-3.result _ self.second at.at-3.ensures at.at-3.type-inv (search c.before.struct_told-2-1.given depth 40) c.if-at-self-3.false
+    same at.at-3.result _ self.second at.at-3.ensures at.at-3.type_inv (search c.before.struct_told-2-1.given depth 40) c.if-at-self-3.false
 
 returns-4 : tie.Need-returns-then-at-self-3
 unfolding is_answer
 returns-4 c =
     let self = c.before.before.before.before.before.before.before.before.before.before.before.before.before.args.self in
     let at = c.before.before.before in
-    let is = other at.at-3.result _ self.second at.at-3.ensures at.at-3.type-inv (search c.before.struct_told-2-1.given depth 40) c.if-at-self-3.true in
+    let is = other at.at-3.result _ self.second at.at-3.ensures at.at-3.type_inv (search c.before.struct_told-2-1.given depth 40) c.if-at-self-3.true in
     let e = at.before in
     simp (eq-eqb _ _ e.before.before.before.before.before.before.before.if-numbers-self.false, number_is e.before.before.before.before, first-is e, is)
 
@@ -93,7 +93,7 @@ returns-5 c =
     let self = c.before.before.before.before.before.before.before.before.before.before.before.before.before.before.before.before.args.self in
     let at = c.before.before in
     let e = at.before in
-    let is = same_bits at.at-4.result self.third (record { sfits = at.at-4.type-inv }) (search c.struct_told-3-1.given depth 40)
+    let is = same_bits at.at-4.result self.third (record { sfits = at.at-4.type_inv }) (search c.struct_told-3-1.given depth 40)
     ∙ ap (λ (z : ℤ). eq_z z self.third) at.at-4.ensures in
     let long = e.before.before.before.before.before.before.before.before.before.before.before.if-numbers-self.false in
     simp (

@@ -27,7 +27,7 @@ counted-requires c κs = search rules
 same_length : tie.Need-shape_of-out
 same_length c =
     let filled = c.before.before.before.before.before.before.before.before.before.before.before.before.before.before.before.fill in
-    c.before.before.before.before.before.process-block.auto.1.1.1.1.1.1.0 ∙ filled.auto.0
+    c.before.before.before.before.before.process-block.auto.out ∙ filled.auto.0
 
 returns : tie.Need-returns
 returns c = search rules

@@ -86,11 +86,11 @@ module _ (c : tie.After-slice_known-in-loop-n-1 invariant-loop decreases-loop) w
   abbrev values : List ℤ
   values = turn.before.before.before.args.values.now
 
-  places-long : length called.process-done.last.1.1.1.1.1.1.0 ≡ length turn.before.before.before.args.places.now
-  places-long = called.process-done.kept.1.1.1.1.1.1.0 ∙ turn.before.loop-n.invariant.0
+  places-long : length called.process-done.new.out ≡ length turn.before.before.before.args.places.now
+  places-long = called.process-done.auto.out ∙ turn.before.loop-n.invariant.0
 
-  out-long : length written.with_call-next.last.1.1.1.1.0 ≡ length turn.before.before.before.args.out.now
-  out-long = written.with_call-next.kept.1.1.1.1.0 ∙ turn.before.loop-n.invariant.1
+  out-long : length written.with_call-next.new.out ≡ length turn.before.before.before.args.out.now
+  out-long = written.with_call-next.auto.out ∙ turn.before.loop-n.invariant.1
 
 same_length : tie.Need-shape_of-places-then-number-gt0 invariant-loop decreases-loop
 same_length c = places-long c.before
