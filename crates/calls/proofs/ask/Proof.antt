@@ -13,7 +13,7 @@ use mir.Syntax.{w64}
 use mir.Val.{to_z}
 use mir.Facts.{to_z_pos}
 use borrow.Author.Rules.{rules}
-use borrow.Author.Tests.{le-leb, lt-leb, not-true, not-false}
+use borrow.Author.Tests.{le-leb, lt-leb}
 use Rattle.arith.proofs.Bits.{sfit}
 use Rattle.kinds.specs.Kinds.{at}
 use Rattle.kinds.specs.Answer.{first_number}
@@ -45,11 +45,11 @@ enum-known-p : tie.Need-enum_known-p
 enum-known-p c = search rules
 
 -- a sheet that cannot be read, and one that can
-unread : (c : tie.In-Refused-2) → Unread (sheet_number c.before.before.before.args.sheet.now) c.number-1.given.0.0
-unread c = sheet-refused _ (sym c.before.before.read_sheet.ensures ∙ c.number-1.given.1)
+unread : (c : tie.In-Refused-2) → Unread (sheet_number c.args.sheet.now) c.in-Refused.number
+unread c = sheet-refused _ (sym c.read_sheet.ensures ∙ c.in-Refused.is)
 
-readable : (c : tie.In-Sheet-2) → Sheeted c.before.before.before.args.sheet.now c.p-1.given.0.0
-readable c = sheet-read _ (sym c.before.before.read_sheet.ensures ∙ c.p-1.given.1)
+readable : (c : tie.In-Sheet-2) → Sheeted c.args.sheet.now c.in-Sheet.p
+readable c = sheet-read _ (sym c.read_sheet.ensures ∙ c.in-Sheet.is)
 
 returns-4 : tie.Need-returns-in-Refused
 unfolding ask_answer
@@ -68,7 +68,7 @@ module _ (c : tie.After-is_state) where
   arm = c.before.before
 
   abbrev start : tie.Start
-  start = arm.before.before.before
+  start = arm.before.before
 
   abbrev sheet : Sheet
   sheet = let a = start.args in sheet_at a.sheet.now a.h.now a.g.now a.k.now
@@ -78,14 +78,14 @@ module _ (c : tie.After-is_state) where
 
   -- under the sheet that was read it is as under the sheet asked for
   same : {A : Type 0} (of : Sheet → A)
-      → of (let a = start.args in sheet_of arm.p-1.given.0.0 a.h.now a.g.now a.k.now) ≡ of sheet
+      → of (let a = start.args in sheet_of arm.in-Sheet.p a.h.now a.g.now a.k.now) ≡ of sheet
   same of = let a = start.args in ap (λ (p : Params). of (sheet_of p a.h.now a.g.now a.k.now)) (readable arm).is
 
 returns : tie.Need-returns-then-not-is_state
 unfolding ask_answer
 returns c =
     let t = c.before.before in
-    let unfit = sym t.is_state.ensures ∙ not-true t.is_state.result c.before.if-not-is_state.true in
+    let unfit = sym t.is_state.ensures ∙ c.if-not-is_state.true in
     let is = c.no_state.ensures ∙ same t (λ s. first_number (judged s).number 9) ∙ sym (no-state-is (sheet t) (given t) unfit) in
     let some = no-state-refuses (sheet t) (given t) unfit is in
     refuses _ _ _ some (then_is _ _ (readable (arm t)).none (first-is _ _ some is))
@@ -106,7 +106,7 @@ module _ (c : tie.Else-not-is_state) where
   tested = c.before
 
   fitting : state_fits (given tested) ≡ true
-  fitting = sym tested.is_state.ensures ∙ not-false tested.is_state.result c.if-not-is_state.false
+  fitting = sym tested.is_state.ensures ∙ c.if-not-is_state.false
 
 abbrev right : tie.After-ask-asked → tie.Else-not-is_state
 right c = c.before.before
@@ -114,8 +114,8 @@ right c = c.before.before
 told : (c : tie.After-ask-asked) → let t = tested (right c) in asked c.ask-asked.result ≡ ask_of (sheet t) (state_of (given t))
 told c =
     let t = tested (right c) in
-    c.ask-asked.ensures ∙ same t (λ s. ask_of s c.before.read_state.result)
-    ∙ ap (ask_of (sheet t)) (c.before.read_state.ensures ∙ state-read (sheet t) (given t) (fitting (right c)))
+    c.ask-asked.ensures ∙ same t (λ s. ask_of s c.read_state.result)
+    ∙ ap (ask_of (sheet t)) (c.read_state.ensures ∙ state-read (sheet t) (given t) (fitting (right c)))
 
 numbered : (c : tie.After-number-refused) → let t = tested (right c.before) in c.number-refused.result ≡ (ask_of (sheet t) (state_of (given t))).refused.number
 numbered c = c.number-refused.ensures ∙ ap (λ (a : Ask). a.refused.number) (told c.before)

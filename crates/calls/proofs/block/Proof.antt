@@ -72,11 +72,11 @@ enum-known-p : tie.Need-enum_known-p
 enum-known-p c = search rules
 
 -- a sheet that cannot be read, and one that can
-unread : (c : tie.In-Refused-2) → Unread (sheet_number c.before.before.before.args.sheet.now) c.number-1.given.0.0
-unread c = sheet-refused _ (sym c.before.before.read_sheet.ensures ∙ c.number-1.given.1)
+unread : (c : tie.In-Refused-2) → Unread (sheet_number c.args.sheet.now) c.in-Refused.number
+unread c = sheet-refused _ (sym c.read_sheet.ensures ∙ c.in-Refused.is)
 
-readable : (c : tie.In-Sheet-2) → Sheeted c.before.before.before.args.sheet.now c.p-1.given.0.0
-readable c = sheet-read _ (sym c.before.before.read_sheet.ensures ∙ c.p-1.given.1)
+readable : (c : tie.In-Sheet-2) → Sheeted c.args.sheet.now c.in-Sheet.p
+readable c = sheet-read _ (sym c.read_sheet.ensures ∙ c.in-Sheet.is)
 
 returns-4 : tie.Need-returns-in-Refused
 returns-4 c = let u = unread c.before in refuses _ _ _ _ _ _ _ _ u.some (first-is _ _ u.some u.is) refl
@@ -89,10 +89,10 @@ read-state-requires c κs = search rules
 -- what a block answers of the state that was read
 module _ (c : tie.After-read_state-before) where
   abbrev arm : tie.In-Sheet-2
-  arm = c.before.before.before.before.before
+  arm = c.before.before.before
 
   abbrev start : tie.Start
-  start = arm.before.before.before
+  start = arm.before.before
 
   abbrev asked : Sheet
   asked = let a = start.args in sheet_at a.sheet.now a.h.now a.g.now a.k.now
@@ -107,7 +107,7 @@ module _ (c : tie.After-read_state-before) where
   given = let a = start.args in slices a.state.now a.line.now a.errors.now
 
   -- under the sheet that was read it is that of the sheet asked for
-  same : block_from (read_as arm.p-1.given.0.0) c.read_state-before.result ≡ block_from asked c.read_state-before.result
+  same : block_from (read_as arm.in-Sheet.p) c.read_state-before.result ≡ block_from asked c.read_state-before.result
   same = ap (λ (p : Params). block_from (read_as p) c.read_state-before.result) (readable arm).is
 
   -- its number: that of the places, then that of the state that they say
@@ -149,8 +149,8 @@ checked : (c : tie.After-number-refused) → let r = c.before.before.before in
 checked c =
     let r = c.before.before.before in
     let a = (start r).args in
-    c.number-refused.ensures ∙ ap (λ (x : Refusal). x.number) c.before.check_block.ensures
-    ∙ sym (number-first (read_as r (arm r).p-1.given.0.0) r.read_state-before.result a.values.now a.out.now)
+    c.number-refused.ensures ∙ ap (λ (x : Refusal). x.number) c.check_block.ensures
+    ∙ sym (number-first (read_as r (arm r).in-Sheet.p) r.read_state-before.result a.values.now a.out.now)
     ∙ ap (λ (b : Block). b.refused.number) (same r)
 
 returns : tie.Need-returns-then-refused-ne0
@@ -246,7 +246,7 @@ cast-answer-3 c = sfit (omega (arith, clipped (passed c)))
 
 -- there are four places
 roomy : (c : tie.Else-refused-ne0-2) → 4 ≤ length (start (from c)).args.answer.now
-roomy c = (running c).before.before.if-answer-lt4.false
+roomy c = (running c).if-answer-lt4.false
 
 slice-set-from-answer-2 : tie.Need-bounds-answer-1
 slice-set-from-answer-2 c = simp length-set (omega (arith, roomy c.before.before.before.before.before.before.before.before.before.before))
@@ -275,7 +275,7 @@ returns-5 c =
     let b = (running e).process-done.result in
     let long : ◌≡◌ {A = ℕ} 0 (room w) = rw (le-leb 4 (length w) (roomy e)) refl in
     writes _ _ _ _ _ _ _ _ (deciding r (accepts e) long)
-    (ap (λ (a : StateAnswer). a.state) c.before.before.before.before.before.before.write_state.ensures
+    (ap (λ (a : StateAnswer). a.state) c.write_state.ensures
     ∙ ap (λ (x : Block). (state_written x.state l).state) (done e)
     ∙ written (block_from r (asked r) (state_of l)).state l (state-long l (fitting e)) (leaves e).placed)
     (ap (λ (x : Block). x.output) (done e))
@@ -324,7 +324,7 @@ same-length-13 : tie.Need-shape_of-errors
 same-length-13 c = search rules
 
 same-length-14 : tie.Need-shape_of-out
-same-length-14 c = (running (passed c)).process-done.auto.out
+same-length-14 c = (running (passed c)).process.kept.1.1.1.1.1.1.0
 
 same-length-15 : tie.Need-shape_of-answer
 same-length-15 c = search rules

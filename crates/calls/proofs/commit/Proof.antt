@@ -9,7 +9,7 @@ use lib.ListN.{length, take, drop, length-take, length-drop, drop_of_length-le}
 use lib.Seq.{take_at}
 use lib.IntN.{ℤ}
 use borrow.Author.Rules.{rules}
-use borrow.Author.Tests.{eq-eqb, le-leb, not-true, not-false}
+use borrow.Author.Tests.{eq-eqb, le-leb}
 use borrow.Rule.Slice.PartMut.{mid_of, post_of, put_mid}
 use Rattle.kinds.specs.Answer.{Answer, first_number}
 use Rattle.kinds.proofs.Answered.{refuses, writes, first-is, then_is}
@@ -40,11 +40,11 @@ enum-known-p : tie.Need-enum_known-p
 enum-known-p c = search rules
 
 -- a sheet that cannot be read, and one that can
-unread : (c : tie.In-Refused-2) → Unread (sheet_number c.before.before.before.args.sheet.now) c.number-1.given.0.0
-unread c = sheet-refused _ (sym c.before.before.read_sheet.ensures ∙ c.number-1.given.1)
+unread : (c : tie.In-Refused-2) → Unread (sheet_number c.args.sheet.now) c.in-Refused.number
+unread c = sheet-refused _ (sym c.read_sheet.ensures ∙ c.in-Refused.is)
 
-readable : (c : tie.In-Sheet-2) → Sheeted c.before.before.before.args.sheet.now c.p-1.given.0.0
-readable c = sheet-read _ (sym c.before.before.read_sheet.ensures ∙ c.p-1.given.1)
+readable : (c : tie.In-Sheet-2) → Sheeted c.args.sheet.now c.in-Sheet.p
+readable c = sheet-read _ (sym c.read_sheet.ensures ∙ c.in-Sheet.is)
 
 returns-3 : tie.Need-returns-in-Refused
 unfolding commit_answer
@@ -63,7 +63,7 @@ module _ (c : tie.After-is_state) where
   arm = c.before.before.before
 
   abbrev start : tie.Start
-  start = arm.before.before.before
+  start = arm.before.before
 
   abbrev sheet : Sheet
   sheet = let a = start.args in sheet_at a.sheet.now a.h.now a.g.now a.k.now
@@ -73,7 +73,7 @@ module _ (c : tie.After-is_state) where
 
   -- under the sheet that was read it is as under the sheet asked for
   same : {A : Type 0} (of : Sheet → A)
-      → of (let a = start.args in sheet_of arm.p-1.given.0.0 a.h.now a.g.now a.k.now) ≡ of sheet
+      → of (let a = start.args in sheet_of arm.in-Sheet.p a.h.now a.g.now a.k.now) ≡ of sheet
   same of = let a = start.args in ap (λ (p : Params). of (sheet_of p a.h.now a.g.now a.k.now)) (readable arm).is
 
 same_length : tie.Need-shape_of-state-then-not-is_state
@@ -83,7 +83,7 @@ returns : tie.Need-returns-then-not-is_state
 unfolding commit_answer
 returns c =
     let t = c.before.before in
-    let unfit = sym t.is_state.ensures ∙ not-true t.is_state.result c.before.if-not-is_state.true in
+    let unfit = sym t.is_state.ensures ∙ c.if-not-is_state.true in
     let is = c.no_state.ensures ∙ same t (λ s. first_number (judged s).number 9) ∙ sym (no-state-is (sheet t) (given t) unfit) in
     let some = no-state-refuses (sheet t) (given t) unfit is in
     refuses _ _ _ some (then_is _ _ (readable (arm t)).none (first-is _ _ some is))
@@ -104,7 +104,7 @@ module _ (c : tie.Else-not-is_state) where
   tested = c.before
 
   fitting : state_fits (given tested) ≡ true
-  fitting = sym tested.is_state.ensures ∙ not-false tested.is_state.result c.if-not-is_state.false
+  fitting = sym tested.is_state.ensures ∙ c.if-not-is_state.false
 
 abbrev right : tie.After-commit-done → tie.Else-not-is_state
 right c = c.before.before.before
@@ -117,8 +117,8 @@ told : (c : tie.After-commit-done) → committed c.commit-done.result ≡ answer
 told c =
     let t = tested (right c) in
     let ticket = (start t).args.ticket in
-    c.commit-done.ensures ∙ same t (λ s. commit_of s ticket c.before.read_state-before.result)
-    ∙ ap (commit_of (sheet t) ticket) (c.before.read_state-before.ensures ∙ state-read (sheet t) (given t) (fitting (right c)))
+    c.commit-done.ensures ∙ same t (λ s. commit_of s ticket c.read_state-before.result)
+    ∙ ap (commit_of (sheet t) ticket) (c.read_state-before.ensures ∙ state-read (sheet t) (given t) (fitting (right c)))
 
 numbered : (c : tie.After-number-refused) → c.number-refused.result ≡ (answer (right c.before)).refused.number
 numbered c = c.number-refused.ensures ∙ ap (λ (a : Commit). a.refused.number) (told c.before)
@@ -201,7 +201,7 @@ returns-4 c =
     let r = right n.before in
     let t = tested r in
     let l = given t in
-    let p = (arm t).p-1.given.0.0 in
+    let p = (arm t).in-Sheet.p in
     let ys = w.write_sheet.new.sheet in
     let none = sym (numbered n) ∙ e.if-refused-ne0.false in
     let wrote = written l (fitting r) p (record { number = w.write_sheet.result; places = ys }) w.write_sheet.ensures in

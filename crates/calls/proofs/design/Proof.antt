@@ -39,8 +39,8 @@ enum-known-design : tie.Need-enum_known-design
 enum-known-design c = search rules
 
 readable : (c : tie.In-Design-2)
-    → let a = c.before.before.before.before.args in Readable a.rates.now a.fields.now c.design-1.given.0.0 c.design-1.given.0.1.0
-readable c = design-read _ _ (sym c.before.before.read_design.ensures ∙ c.design-1.given.1)
+    → let a = c.args in Readable a.rates.now a.fields.now c.in-Design.design c.in-Design.gains
+readable c = design-read _ _ (sym c.read_design.ensures ∙ c.in-Design.is)
 
 params-requires : tie.Need-params-verdict-requires
 params-requires c κs = search rules
@@ -50,7 +50,7 @@ params-requires c κs = search rules
 -- what it answers
 module _ (c : tie.After-params-verdict) where
   abbrev start : tie.Start
-  start = c.before.before.before.before.before.before
+  start = c.before.before.before.before
 
   abbrev answer : Designed Params
   answer = let a = start.args in sheet_of_design (design_at a.rates.now a.fields.now) (gains_at a.fields.now) a.h.now a.g.now a.k.now
@@ -59,7 +59,7 @@ module _ (c : tie.After-params-verdict) where
   told =
       let a = start.args in
       let arm = c.before.before in
-      let of-design : Design → Designed Params = λ d. sheet_of_design d arm.design-1.given.0.1.0 a.h.now a.g.now a.k.now in
+      let of-design : Design → Designed Params = λ d. sheet_of_design d arm.in-Design.gains a.h.now a.g.now a.k.now in
       let of-gains : Gains → Designed Params = λ s. sheet_of_design (design_at a.rates.now a.fields.now) s a.h.now a.g.now a.k.now in
       c.params-verdict.ensures ∙ ap of-design (readable arm).is ∙ ap of-gains (readable arm).with
 
@@ -90,17 +90,16 @@ returns : tie.Need-returns-in-Refused
 unfolding design_answer
 returns c =
     let arm = c.before in
-    let unread = design-refused _ _ (sym arm.before.before.read_design.ensures ∙ arm.number-1.given.1) in
+    let unread = design-refused _ _ (sym arm.read_design.ensures ∙ arm.in-Refused.is) in
     refuses _ _ _ unread.some (first-is _ _ unread.some unread.is)
 
 returns-2 : tie.Need-returns-in-Refused-verdict
 unfolding design_answer
 returns-2 c =
     let arm = c.before.before in
-    let refused = arm.verdict-1.given in
-    let designed = arm.before.before in
-    let is : c.number.result ≡ refused_by (answer designed) = c.number.ensures ∙ ap refused_by (sym (ap sheet_answer refused.1) ∙ told designed) in
-    let some : c.number.result ≡ 0 → ⊥ = λ z. omega (arith, sheet-numbered refused.0.0, c.number.ensures) in
+    let designed = arm.before in
+    let is : c.number.result ≡ refused_by (answer designed) = c.number.ensures ∙ ap refused_by (sym (ap sheet_answer arm.in-Refused-verdict.is) ∙ told designed) in
+    let some : c.number.result ≡ 0 → ⊥ = λ z. omega (arith, sheet-numbered arm.in-Refused-verdict.e, c.number.ensures) in
     refuses _ _ _ some (then_is _ _ (readable designed.before.before).none (first-is _ _ some is))
 
 -- ---- the sheet
@@ -118,11 +117,11 @@ returns-3 : tie.Need-returns-in-Accepted
 unfolding design_answer
 returns-3 c =
     let arm = c.before.before.before.before in
-    let designed = arm.before.before in
+    let designed = arm.before in
     let places = (start designed).args.sheet.now in
     let room : ℕ = cond (leb 18 (length places)) 0 11 in
-    let is : accepted arm.verdict-in-Accepted-1.given.0.0 ≡ answer designed = sym (ap sheet_answer arm.verdict-in-Accepted-1.given.1) ∙ told designed in
-    c.before.write_sheet.ensures
+    let is : accepted arm.in-Accepted.p ≡ answer designed = sym (ap sheet_answer arm.in-Accepted.is) ∙ told designed in
+    c.write_sheet.ensures
     ∙ sized _ places
     ∙ ap (λ (d : Designed Params). answered (first_number (refused_by d) room) (written_by d places) places) is
     ∙ sym (then-answer _ _ _ places (readable designed.before.before).none)

@@ -30,7 +30,7 @@ returns : tie.Need-returns-in-Refused
 unfolding judge_number
 returns c =
     let arm = c.before in
-    let unread = sheet-refused _ (sym arm.before.before.read_sheet.ensures ∙ arm.number-1.given.1) in
+    let unread = sheet-refused _ (sym arm.read_sheet.ensures ∙ arm.in-Refused.is) in
     first-is _ _ unread.some unread.is
 
 returns-2 : tie.Need-returns-in-Sheet
@@ -38,9 +38,9 @@ unfolding judge_number
 returns-2 c =
     let judging = c.before in
     let arm = judging.before.before in
-    let read = arm.before.before in
-    let a = read.before.args in
-    let sheet = sheet-read _ (sym read.read_sheet.ensures ∙ arm.p-1.given.1) in
+    let read = arm.before in
+    let a = read.args in
+    let sheet = sheet-read _ (sym read.read_sheet.ensures ∙ arm.in-Sheet.is) in
     then_is (sheet_number a.sheet.now) (judged (sheet_at a.sheet.now a.h.now a.g.now a.k.now)).number sheet.none
     (c.number.ensures ∙ ap (λ (r : Refusal). r.number) judging.validate-verdict.ensures
     ∙ ap (λ (p : Params). (judged (sheet_of p a.h.now a.g.now a.k.now)).number) sheet.is)

@@ -15,12 +15,12 @@ number-requires c κs = search rules
 returns : tie.Need-returns-then-refused-ne0
 returns c =
     let n = c.before in
-    first-is _ _ c.if-refused-ne0.true (n.number-refused.ensures ∙ ap (λ (r : Refusal). r.number) n.before.validate-verdict.ensures)
+    first-is _ _ c.if-refused-ne0.true (n.number-refused.ensures ∙ ap (λ (r : Refusal). r.number) n.validate-verdict.ensures)
 
 returns-2 : tie.Need-returns
 returns-2 c =
     let n = c.before in
-    then_is _ _ (sym (n.number-refused.ensures ∙ ap (λ (r : Refusal). r.number) n.before.validate-verdict.ensures) ∙ c.if-refused-ne0.false) refl
+    then_is _ _ (sym (n.number-refused.ensures ∙ ap (λ (r : Refusal). r.number) n.validate-verdict.ensures) ∙ c.if-refused-ne0.false) refl
 
 pub no_state_spec : {M : Type 1} → statement M
 no_state_spec = tie.close (tie.spec validate-requires number-requires returns returns-2)

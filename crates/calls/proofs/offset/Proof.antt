@@ -32,11 +32,11 @@ enum-known-p : tie.Need-enum_known-p
 enum-known-p c = search rules
 
 -- a sheet that cannot be read, and one that can
-unread : (c : tie.In-Refused-2) → Unread (sheet_number c.before.before.before.args.sheet.now) c.number-1.given.0.0
-unread c = sheet-refused _ (sym c.before.before.read_sheet.ensures ∙ c.number-1.given.1)
+unread : (c : tie.In-Refused-2) → Unread (sheet_number c.args.sheet.now) c.in-Refused.number
+unread c = sheet-refused _ (sym c.read_sheet.ensures ∙ c.in-Refused.is)
 
-readable : (c : tie.In-Sheet-2) → Sheeted c.before.before.before.args.sheet.now c.p-1.given.0.0
-readable c = sheet-read _ (sym c.before.before.read_sheet.ensures ∙ c.p-1.given.1)
+readable : (c : tie.In-Sheet-2) → Sheeted c.args.sheet.now c.in-Sheet.p
+readable c = sheet-read _ (sym c.read_sheet.ensures ∙ c.in-Sheet.is)
 
 of-period-requires : tie.Need-of_period-offset-requires
 of-period-requires c κs = search rules
@@ -47,11 +47,11 @@ number-requires c κs = search rules
 -- what the offset is by it
 module _ (c : tie.After-of_period-offset) where
   abbrev answer : Parts
-  answer = let a = c.before.before.before.before.before.args in offset_of (sheet_at a.sheet.now a.h.now a.g.now a.k.now) a.period
+  answer = let a = c.args in offset_of (sheet_at a.sheet.now a.h.now a.g.now a.k.now) a.period
 
   told : offset_parts c.of_period-offset.result ≡ answer
   told =
-      let a = c.before.before.before.before.before.args in
+      let a = c.args in
       c.of_period-offset.ensures ∙ ap (λ (p : Params). offset_of (sheet_of p a.h.now a.g.now a.k.now) a.period) (readable c.before.before).is
 
 -- its number
@@ -66,7 +66,7 @@ returns c =
 
 -- where both are 0, the length of the answer decides
 sized : (c : tie.After-number-refused) {n : ℕ} → c.number-refused.result ≡ 0
-    → let a = c.before.before.before.before.before.before.args in n ≡ cond (leb 1 (length a.answer.now)) 0 11
+    → let a = c.args in n ≡ cond (leb 1 (length a.answer.now)) 0 11
     → n ≡ first_number (sheet_number a.sheet.now) (first_number (answer c.before).refused.number (cond (leb 1 (length a.answer.now)) 0 11))
 sized c z e = then_is _ _ (readable c.before.before.before).none (then_is _ _ (sym (number c) ∙ z) e)
 
@@ -74,9 +74,9 @@ returns-2 : tie.Need-returns-then-answer-lt1
 unfolding offset_answer
 returns-2 c =
     let verdict = c.before.before in
-    let places = verdict.before.before.before.before.before.before.args.answer.now in
+    let places = verdict.args.answer.now in
     let short : ◌≡◌ {A = ℕ} 11 (cond (leb 1 (length places)) 0 11) = rw (lt-leb 1 (length places) c.if-answer-lt1.true) refl in
-    refuses _ _ _ (λ z. absurd (omega arith)) (sized verdict c.before.if-refused-ne0.false short)
+    refuses _ _ _ (λ z. absurd (omega arith)) (sized verdict c.if-refused-ne0.false short)
 
 slice-set-from-parts : tie.Need-bounds-answer-0
 slice-set-from-parts c = search rules
@@ -93,10 +93,10 @@ unfolding offset_answer
 returns-4 c =
     let right = c.before in
     let verdict = right.before.before in
-    let places = verdict.before.before.before.before.before.before.args.answer.now in
-    let parts = verdict.before.of_period-offset.result.parts in
+    let places = verdict.args.answer.now in
+    let parts = verdict.of_period-offset.result.parts in
     let long : ◌≡◌ {A = ℕ} 0 (cond (leb 1 (length places)) 0 11) = rw (le-leb 1 (length places) right.if-answer-lt1.false) refl in
-    writes _ _ _ (sized verdict right.before.if-refused-ne0.false long)
+    writes _ _ _ (sized verdict right.if-refused-ne0.false long)
     (simp (held w64 parts (search c.struct_told-1.given depth 40)) (sets-eq (parts ∷ []) places 0 (omega arith))
     ∙ ap (λ (s : Parts). s.parts ∷ drop 1 places) (told verdict.before))
 

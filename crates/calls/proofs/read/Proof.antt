@@ -46,11 +46,11 @@ enum-known-p : tie.Need-enum_known-p
 enum-known-p c = search rules
 
 -- a sheet that cannot be read, and one that can
-unread : (c : tie.In-Refused-2) → Unread (sheet_number c.before.before.before.args.sheet.now) c.number-1.given.0.0
-unread c = sheet-refused _ (sym c.before.before.read_sheet.ensures ∙ c.number-1.given.1)
+unread : (c : tie.In-Refused-2) → Unread (sheet_number c.args.sheet.now) c.in-Refused.number
+unread c = sheet-refused _ (sym c.read_sheet.ensures ∙ c.in-Refused.is)
 
-readable : (c : tie.In-Sheet-2) → Sheeted c.before.before.before.args.sheet.now c.p-1.given.0.0
-readable c = sheet-read _ (sym c.before.before.read_sheet.ensures ∙ c.p-1.given.1)
+readable : (c : tie.In-Sheet-2) → Sheeted c.args.sheet.now c.in-Sheet.p
+readable c = sheet-read _ (sym c.read_sheet.ensures ∙ c.in-Sheet.is)
 
 -- ---- the state
 
@@ -69,7 +69,7 @@ module _ (c : tie.After-read-reading) where
   arm = c.before.before.before
 
   abbrev start : tie.Start
-  start = arm.before.before.before
+  start = arm.before.before
 
   abbrev sheet : Sheet
   sheet = let a = start.args in sheet_at a.sheet.now a.h.now a.g.now a.k.now
@@ -80,8 +80,8 @@ module _ (c : tie.After-read-reading) where
   told : reading c.read-reading.result ≡ read_of sheet (read_state given)
   told =
       let a = start.args in
-      let of-p : Params → Read = λ p. read_of (sheet_of p a.h.now a.g.now a.k.now) c.before.read_state.result in
-      c.read-reading.ensures ∙ ap of-p (readable arm).is ∙ ap (λ (f : Frontend). read_of sheet f) c.before.read_state.ensures
+      let of-p : Params → Read = λ p. read_of (sheet_of p a.h.now a.g.now a.k.now) c.read_state.result in
+      c.read-reading.ensures ∙ ap of-p (readable arm).is ∙ ap (λ (f : Frontend). read_of sheet f) c.read_state.ensures
 
 -- its number: that of the slices, then that of the state that they say
 numbered : (c : tie.After-number-refused) → let r = c.before in
@@ -156,7 +156,7 @@ cast-answer-2 : tie.Need-overflow_cast-answer-in-Sheet
 cast-answer-2 c = search rules
 
 slice-set-from-answer-2 : tie.Need-bounds-answer-1
-slice-set-from-answer-2 c = simp length-set (omega (arith, c.before.before.if-answer-lt3.false))
+slice-set-from-answer-2 c = simp length-set (omega (arith, c.if-answer-lt3.false))
 
 cast-answer-3 : tie.Need-overflow_cast-answer-in-Sheet-2
 cast-answer-3 c = sfit (omega (arith, small c.before.before.before.before))

@@ -26,11 +26,11 @@ enum-known-p : tie.Need-enum_known-p
 enum-known-p c = search rules
 
 -- a sheet that cannot be read, and one that can
-unread : (c : tie.In-Refused-2) → Unread (sheet_number c.before.before.before.args.sheet.now) c.number-1.given.0.0
-unread c = sheet-refused _ (sym c.before.before.read_sheet.ensures ∙ c.number-1.given.1)
+unread : (c : tie.In-Refused-2) → Unread (sheet_number c.args.sheet.now) c.in-Refused.number
+unread c = sheet-refused _ (sym c.read_sheet.ensures ∙ c.in-Refused.is)
 
-readable : (c : tie.In-Sheet-2) → Sheeted c.before.before.before.args.sheet.now c.p-1.given.0.0
-readable c = sheet-read _ (sym c.before.before.read_sheet.ensures ∙ c.p-1.given.1)
+readable : (c : tie.In-Sheet-2) → Sheeted c.args.sheet.now c.in-Sheet.p
+readable c = sheet-read _ (sym c.read_sheet.ensures ∙ c.in-Sheet.is)
 
 new-requires : tie.Need-new-started-requires
 new-requires c κs = search rules
@@ -41,11 +41,11 @@ number-requires c κs = search rules
 -- what starting from it answers
 module _ (c : tie.After-new-started) where
   abbrev answer : Start
-  answer = let a = c.before.before.before.before.before.args in start_of (sheet_at a.sheet.now a.h.now a.g.now a.k.now)
+  answer = let a = c.args in start_of (sheet_at a.sheet.now a.h.now a.g.now a.k.now)
 
   told : started c.new-started.result ≡ answer
   told =
-      let a = c.before.before.before.before.before.args in
+      let a = c.args in
       c.new-started.ensures ∙ ap (λ (p : Params). start_of (sheet_of p a.h.now a.g.now a.k.now)) (readable c.before.before).is
 
 -- its number
@@ -90,7 +90,7 @@ returns-3 c =
     let w = c.before.before.before in
     let right = w.before.before.before.before.before in
     let new = right.before.before in
-    let a = new.before.before.before.before.before.args in
+    let a = new.args in
     let l = slices a.state.now a.line.now a.errors.now in
     w.write_state.ensures
     ∙ ap (λ (s : Start). state_written s.state l) (told new)

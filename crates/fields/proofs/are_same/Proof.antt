@@ -26,7 +26,7 @@ record Signed (p : Params) : Type 0 where
   ki : SFits w16 p.ki
   most : SFits w32 p.integrator_max
 
-first : (c : tie.After-struct_told-1) → Signed c.before.before.before.before.args.p
+first : (c : tie.After-struct_told-1) → Signed c.args.p
 first c = record {
   nco = record { sfits = search c.struct_told-1.given depth 40 };
   kp = record { sfits = search c.struct_told-1.given depth 40 };
@@ -34,7 +34,7 @@ first c = record {
   most = record { sfits = search c.struct_told-1.given depth 40 };
 }
 
-second : (c : tie.After-struct_told-2-1) → Signed c.before.before.before.before.before.before.args.q
+second : (c : tie.After-struct_told-2-1) → Signed c.args.q
 second c = record {
   nco = record { sfits = search c.struct_told-2-1.given depth 40 };
   kp = record { sfits = search c.struct_told-2-1.given depth 40 };

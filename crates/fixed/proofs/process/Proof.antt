@@ -31,13 +31,13 @@ enum_told : tie.Need-enum_told-1
 enum_told c = search rules
 
 faultless : (c : tie.In-Accepted)
-    → let s = c.before.before.before in
+    → let s = c.before.before in
     block_faults (sheet s) s.args.f (length s.args.values.now) (length s.args.out.now) ≡ []
 faultless c =
-    let t = c.before.before in
+    let t = c.before in
     let s = t.before in
     passes (block-numbered (sheet s) s.args.f (length s.args.values.now) (length s.args.out.now)) t.check_block-verdict.ensures
-    c.enum_told-1.given.1
+    c.in-Accepted.is
 
 run-requires : tie.Need-run-requires
 run-requires c κs = faultless c.before
@@ -48,14 +48,14 @@ same_length c = search rules
 returns : tie.Need-returns-in-Accepted
 returns c =
     let r = c.before in
-    let s = r.before.before.before.before.before in
+    let s = r.before.before.before.before in
     runs (sheet s) s.args.f s.args.values.now s.args.out.now (faultless r.before.before) r.run.ensures
 
 returns-2 : tie.Need-returns-in_default
 returns-2 c =
     let t = c.before in
     let s = t.before in
-    none-run (sheet s) s.args.f s.args.values.now s.args.out.now (refuses t.check_block-verdict.result c.match.keys2) t.check_block-verdict.ensures
+    none-run (sheet s) s.args.f s.args.values.now s.args.out.now (refuses t.check_block-verdict.result c.in_default.in_default-own.keys2) t.check_block-verdict.ensures
 
 pub process_spec : {M : Type 1} → statement M
 process_spec =

@@ -56,14 +56,14 @@ module _ (c : tie.After-pairs_taken-taken) where
   abbrev taken : ℕ
   taken = c.pairs_taken-taken.result
 
-  there : 2 * taken ≤ length c.before.args.values.now
+  there : 2 * taken ≤ length c.args.values.now
   unfolding pairs_taken
   there = omega (arith, c.pairs_taken-taken.ensures)
 
-  lent : length (take (2 * taken) c.before.args.values.now) ≡ 2 * taken
-  lent = length-take-le (2 * taken) c.before.args.values.now there
+  lent : length (take (2 * taken) c.args.values.now) ≡ 2 * taken
+  lent = length-take-le (2 * taken) c.args.values.now there
 
-  roomy : 20 * taken ≤ length c.before.args.out.now
+  roomy : 20 * taken ≤ length c.args.out.now
   unfolding pairs_taken
   roomy = omega (arith, c.pairs_taken-taken.ensures)
 

@@ -9,7 +9,7 @@ use lib.Dec.{leb, eqb}
 use lib.IntN.{ℤ, pos}
 use mir.Syntax.{w64}
 use borrow.Author.Rules.{rules}
-use borrow.Author.Tests.{not-true, not-false, ne_eqb}
+use borrow.Author.Tests.{ne_eqb}
 use Rattle.arith.proofs.Bits.{held}
 use Rattle.params.specs.declared.Verdict.{Verdict}
 use Rattle.params.specs.declared.Verdict.TheVariants.{Accepted}
@@ -53,8 +53,7 @@ enum-known-verdict c = search rules
 
 returns : tie.Need-returns-in-Refused
 returns c =
-    let e = c.before.verdict-1.given in
-    sheet-refused _ _ (error-numbered e.0.0) (refused c.before.before.before.validate-verdict.ensures e.1)
+    sheet-refused _ _ (error-numbered c.in-Refused.e) (refused c.validate-verdict.ensures c.in-Refused.is)
 
 enum_told : tie.Need-enum_told-1
 enum_told c = search rules
@@ -65,7 +64,7 @@ is-within-requires c κs = search rules
 returns-2 : tie.Need-returns-then-not-is_within
 returns-2 c =
     let v = c.before.before in
-    sheet-passed _ _ (passed v.before.before.validate-verdict.ensures v.enum_told-1.given.1) (sym c.before.is_Within.ensures ∙ not-true _ c.if-not-is_within.true)
+    sheet-passed _ _ (passed v.validate-verdict.ensures v.in_default.is) (sym c.is_within.ensures ∙ c.if-not-is_within.true)
 
 parts-of-requires : tie.Need-parts_of-requires
 parts-of-requires c κs = search rules
@@ -74,8 +73,8 @@ returns-3 : tie.Need-returns
 returns-3 c =
     let v = c.before.before.before in
     ap (λ (z : ℤ). record { refused = nothing; parts = z }) (held w64 c.parts_of.result c.parts_of.type_inv ∙ c.parts_of.ensures)
-    ∙ sheet-passed _ _ (passed v.before.before.validate-verdict.ensures v.enum_told-1.given.1) (sym c.before.before.is_Within.ensures
-    ∙ not-false _ c.before.if-not-is_within.false)
+    ∙ sheet-passed _ _ (passed v.validate-verdict.ensures v.in_default.is) (sym c.is_within.ensures
+    ∙ c.if-not-is_within.false)
 
 pub of_period_spec : {M : Type 1} → statement M
 of_period_spec =

@@ -37,13 +37,13 @@ cast-longer-2 c = search rules
 sub-longer : tie.Need-overflow_sub-longer
 sub-longer c =
     let f = c.struct_known-1.given.1.1.0 in
-    let g = c.before.ranges.period in
+    let g = c.ranges.period in
     rw (read _ _ f g) (difference-fits _ _ f g)
 
 mul-divide-nearest : tie.Need-overflow_mul-longer
 mul-divide-nearest c =
     let f = c.struct_known-1.given.1.1.0 in
-    let g = c.before.ranges.period in
+    let g = c.ranges.period in
     rw (subtracted _ _ f g) (product-fits _ _ f g)
 
 divide-nearest-requires : tie.Need-divide_nearest-requires
@@ -52,8 +52,8 @@ divide-nearest-requires c κs = search rules
 returns : tie.Need-returns
 unfolding parts_of
 returns c =
-    let f = c.before.struct_known-1.given.1.1.0 in
-    let g = c.before.before.ranges.period in
+    let f = c.struct_known-1.given.1.1.0 in
+    let g = c.ranges.period in
     let told : c.divide_nearest.result ≡ _ = simp (subtracted _ _ f g, to_z-of_z (product-fits _ _ f g)) at c.divide_nearest.ensures in
     held w64 c.divide_nearest.result c.divide_nearest.type_inv ∙ told
 

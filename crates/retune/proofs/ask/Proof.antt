@@ -17,7 +17,7 @@ abbrev sheet : tie.Start → Sheet
 sheet s = sheet_of s.args.p s.args.h.now s.args.g.now s.args.k.now
 
 -- asked and accepted, and asked and refused
-accepts : (s : Sheet) (f : Frontend) → ask_faults s f ≡ [] → ◌≡◌ {A = Ask} (record { refused = nothing; ticket = f.registers-1.symbols }) (ask_of s f)
+accepts : (s : Sheet) (f : Frontend) → ask_faults s f ≡ [] → ◌≡◌ {A = Ask} (record { refused = nothing; ticket = f.registers.symbols }) (ask_of s f)
 unfolding ask_of
 accepts s f none = rw none
 
@@ -34,14 +34,14 @@ enum_told c = search rules
 
 returns : tie.Need-returns-in-Accepted
 returns c =
-    let t = c.before.before.before in
-    let f = t.before.args.f in
-    accepts (sheet t.before) f (passes (ask-numbered (sheet t.before) f) t.check_ask-verdict.ensures c.enum_told-1.given.1)
+    let t = c.before.before in
+    let f = t.args.f in
+    accepts (sheet t.before) f (passes (ask-numbered (sheet t.before) f) t.check_ask-verdict.ensures c.in-Accepted.is)
 
 returns-2 : tie.Need-returns-in_default
 returns-2 c =
     let t = c.before.before in
-    none-given (sheet t.before) t.before.args.f (refuses t.check_ask-verdict.result c.match.keys2) t.check_ask-verdict.ensures
+    none-given (sheet t.before) t.args.f (refuses t.check_ask-verdict.result c.in_default.in_default-own.keys2) t.check_ask-verdict.ensures
 
 pub ask_spec : {M : Type 1} → statement M
 ask_spec = tie.close (tie.spec check-ask-requires enum_told returns returns-2)

@@ -39,17 +39,17 @@ holding-requires c κs = search rules
 returns : tie.Need-returns-in-Accepted
 returns c =
     let e = c.before in
-    let t = e.before.before in
+    let t = e.before in
     let s = t.before in
     let a = s.args in
-    takes (sheet s) a.ticket a.f (passes (commit-numbered (sheet s) a.ticket a.f) t.check_commit-verdict.ensures e.enum_told-1.given.1)
+    takes (sheet s) a.ticket a.f (passes (commit-numbered (sheet s) a.ticket a.f) t.check_commit-verdict.ensures e.in-Accepted.is)
     c.holding.ensures
 
 returns-2 : tie.Need-returns-in_default
 returns-2 c =
     let t = c.before in
     let s = t.before in
-    leaves (sheet s) s.args.ticket s.args.f (refuses t.check_commit-verdict.result c.match.keys2) t.check_commit-verdict.ensures
+    leaves (sheet s) s.args.ticket s.args.f (refuses t.check_commit-verdict.result c.in_default.in_default-own.keys2) t.check_commit-verdict.ensures
 
 pub commit_spec : {M : Type 1} → statement M
 commit_spec =

@@ -1,12 +1,11 @@
 -- `fixed::block::emit` meets its contract: a symbol that was made is put behind the others, as its own function does it.
 -- Where none was made, nothing changes.
 use Rattle.std.proofs.Common.{refl, rules}
-use borrow.Author.Tests.{not-true, not-false}
 use Rattle.fixed.proofs.block.emit.Statement.{statement}
 use Rattle.fixed.proofs.block.emit.Tie as tie
 
 returns : tie.Need-returns-then-not-made
-returns c = rw (not-true c.before.args.made c.if-not-made.true) refl
+returns c = rw c.if-not-made.true refl
 
 put-requires : tie.Need-put-requires
 put-requires c κs = search rules
@@ -18,7 +17,7 @@ returns-2 : tie.Need-returns
 returns-2 c =
     let p = c.before in
     let e = p.before.before in
-    rw (not-false e.before.args.made e.if-not-made.false) p.put.ensures
+    rw e.if-not-made.false p.put.ensures
 
 pub emit_spec : {M : Type 1} → statement M
 emit_spec = tie.close (tie.spec returns put-requires same_length returns-2)

@@ -25,7 +25,7 @@ abbrev decreases-loop : tie.decreases-loop-n
 decreases-loop taps i q packed₀ n₀ packed n = taps - n
 
 loop-holds : tie.Need-loop-n-init invariant-loop decreases-loop
-loop-holds c = let a = c.before.before.args in (omega arith, filled_none no_pair (pair_at a.i.now a.q.now) a.line)
+loop-holds c = let a = c.args in (omega arith, filled_none no_pair (pair_at a.i.now a.q.now) a.line)
 
 -- ---- a turn: the numbers at its place are below 2^32
 
@@ -33,11 +33,11 @@ module _ (t : tie.In-loop-n invariant-loop decreases-loop) where
   abbrev start : tie.Start invariant-loop decreases-loop
   start = t.before.before.before.before
 
-  at_i : get_or start.args.i.now t.before.loop-n.n 0 < 4294967296
-  at_i = start.requires.1.small-i t.before.loop-n.n t.loop-n-test.taken
+  at_i : get_or start.args.i.now t.loop-n.n 0 < 4294967296
+  at_i = start.requires.1.small-i t.loop-n.n t.loop-n-test.taken
 
-  at-q : get_or start.args.q.now t.before.loop-n.n 0 < 4294967296
-  at-q = start.requires.1.small-q t.before.loop-n.n t.loop-n-test.taken
+  at-q : get_or start.args.q.now t.loop-n.n 0 < 4294967296
+  at-q = start.requires.1.small-q t.loop-n.n t.loop-n-test.taken
 
 -- lowered, such a number is one of 32 bits signed
 narrow-fits : (u : ℕ) {z : ℤ} → u < 4294967296 → z ≡ lowered u → SFits w32 (to_z w64 (of_z w64 z))
@@ -85,15 +85,15 @@ loop-less c = search rules
 loop-again : tie.Need-loop-n-preserved invariant-loop decreases-loop
 loop-again c =
     let t = c.before.before.before.before in
-    let l = t.before.loop-n in
-    let i = narrow-is _ (at_i t) c.before.before.lower.ensures in
+    let l = t.loop-n in
+    let i = narrow-is _ (at_i t) c.lower.ensures in
     let q = narrow-is _ (at-q t) c.lower-in-loop-n.ensures in
     rw (i, q) (omega arith, filled_next l.invariant.1 (omega arith))
 
 returns : tie.Need-returns invariant-loop decreases-loop
 returns c =
-    let a = c.before.before.before.before.args in
-    let l = c.before.loop-n in
+    let a = c.args in
+    let l = c.loop-n in
     record { long = search rules; each = λ m. choice a.taps m (λ h. l.invariant.1.first m (omega arith)) (λ h. l.invariant.1.rest m (omega arith)) }
 
 pub pack_line_spec : {M : Type 1} → statement M

@@ -46,15 +46,15 @@ loop-less c = search rules
 
 loop-again : tie.Need-loop-n-preserved invariant-loop decreases-loop
 loop-again c =
-    let a = c.before.before.before.before.args in
-    let l = c.before.before.before.loop-n in
-    let e = held w32 (get_or a.e.now l.n (pos 0)) c.before.packed-1.given in
+    let a = c.args in
+    let l = c.loop-n in
+    let e = held w32 (get_or a.e.now l.n (pos 0)) c.packed-1.given in
     let err = held w32 (get_or a.err.now l.n (pos 0)) c.packed-in-loop-n-1.given in
     simp (e, err) (omega arith, filled_next l.invariant.1 (search rules))
 
 returns : tie.Need-returns invariant-loop decreases-loop
 returns c =
-    let l = c.before.loop-n in
+    let l = c.loop-n in
     record {
       long-e = omega arith;
       long-err = omega arith;

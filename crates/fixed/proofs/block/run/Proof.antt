@@ -73,7 +73,7 @@ push-requires : tie.Need-push-s-requires invariant-loop decreases-loop
 push-requires c κs =
     let t = c.before.before.before.before.before.before.before in
     let b = start t in (
-      (at-loop t).before.cos_table-cos.ensures,
+      (at-loop t).cos_table-cos.ensures,
       turned-ready (sheet b) b.args.values.now b.args.out.now (x₀ b) b.requires.1.0 b.requires.1.1 (at-loop t).loop-n.invariant (below t),
     )
 
@@ -94,8 +94,8 @@ module _ (c : tie.After-push-s invariant-loop decreases-loop) where
   read_is =
       let values = b.args.values.now in
       let n = (at-loop turn).loop-n.n in
-      let i = held w16 (get_or values (2 * n) (pos 0)) c.before.before.push-arg-in-loop-n-4-1.given in
-      let q = held w16 (get_or values (2 * n + 1) (pos 0)) c.before.push-arg-in-loop-n-5-1.given in
+      let i = held w16 (get_or values (2 * n) (pos 0)) c.push-arg-in-loop-n-4-1.given in
+      let q = held w16 (get_or values (2 * n + 1) (pos 0)) c.push-arg-in-loop-n-5-1.given in
       pairs-at values n (below turn) ∙ sym (λ t. record { i = i t; q = q t })
 
   -- What was kept before the sample, and what is kept after it.
@@ -126,7 +126,7 @@ pushed c = c.before.before.before.before.before.before.before.before.before.befo
 
 added : (c : tie.After-clips_of-clips invariant-loop decreases-loop) → c.clips_of-clips.result ≤ 12
 added c =
-    let p = (pushed c).push in
+    let p = (pushed c).push-s in
     subst (λ (n : ℕ). n ≤ 12) (sym c.clips_of-clips.ensures) (added-few p.result.made p.result.symbol p.ensures.few-clips)
 
 add-clips : tie.Need-overflow_add-clips invariant-loop decreases-loop
@@ -147,22 +147,22 @@ loop-again c =
     let u = pushed a in
     let b = b u in
     turned-next (sheet b) b.args.values.now b.args.out.now (x₀ b) b.requires.1.0 b.requires.1.1
-    (at-loop (turn u)).loop-n.inv (below (turn u)) (read_is u) (turns u) e.emit-count.ensures e.emit-count.auto.out a.clips_of-clips.ensures
+    (at-loop (turn u)).loop.inv (below (turn u)) (read_is u) (turns u) e.emit-count.ensures e.emit-count.auto.out a.clips_of-clips.ensures
 
 same_length : tie.Need-shape_of-out invariant-loop decreases-loop
-same_length c = c.before.loop-n.invariant.long
+same_length c = c.loop-n.invariant.long
 
 same-length-2 : tie.Need-shape_of-i invariant-loop decreases-loop
-same-length-2 c = c.before.loop-n.invariant.begun.line.long-i ∙ sym c.before.before.before.before.before.requires.0.line.long-i
+same-length-2 c = c.loop-n.invariant.begun.line.long-i ∙ sym c.requires.0.line.long-i
 
 same-length-3 : tie.Need-shape_of-q invariant-loop decreases-loop
-same-length-3 c = c.before.loop-n.invariant.begun.line.long-q ∙ sym c.before.before.before.before.before.requires.0.line.long-q
+same-length-3 c = c.loop-n.invariant.begun.line.long-q ∙ sym c.requires.0.line.long-q
 
 same-length-4 : tie.Need-shape_of-e invariant-loop decreases-loop
-same-length-4 c = c.before.loop-n.invariant.begun.long-e ∙ sym c.before.before.before.before.before.requires.0.long-e
+same-length-4 c = c.loop-n.invariant.begun.long-e ∙ sym c.requires.0.long-e
 
 same-length-5 : tie.Need-shape_of-err invariant-loop decreases-loop
-same-length-5 c = c.before.loop-n.invariant.begun.long-err ∙ sym c.before.before.before.before.before.requires.0.long-err
+same-length-5 c = c.loop-n.invariant.begun.long-err ∙ sym c.requires.0.long-err
 
 returns : tie.Need-returns invariant-loop decreases-loop
 returns c =

@@ -16,7 +16,7 @@ decreases-loop taps i₀ q₀ line n₀ i q n = taps - n
 
 loop-holds : tie.Need-loop-n-init invariant-loop decreases-loop
 loop-holds c =
-    let a = c.before.before.args in
+    let a = c.args in
     let line = a.t1 in
     (omega arith, (laying-none (λ m. (get_or line m no_pair).i) a.i.now (omega arith), laying-none (λ m. (get_or line m no_pair).q) a.q.now (omega arith)))
 
@@ -53,10 +53,10 @@ loop-less c = search rules
 loop-again : tie.Need-loop-n-preserved invariant-loop decreases-loop
 loop-again c =
     let first = c.before.before in
-    let l = first.before.before.before.before.loop-n in
-    let m = get_or first.before.before.before.before.before.before.before.args.t1 l.n no_pair in
+    let l = first.loop-n in
+    let m = get_or first.args.t1 l.n no_pair in
     let i = first.raise in
-    let q = c.raise2 in
+    let q = c.raise-in-loop-n in
     let i-is : lowered i.result ≡ m.i = i.ensures.0 ∙ held w32 m.i (search (rules, first.before)) in
     let q-is : lowered q.result ≡ m.q = q.ensures.0 ∙ held w32 m.q (search (rules, c.before)) in (
       omega arith,
@@ -74,7 +74,7 @@ same-length-2 c = omega arith
 
 returns : tie.Need-returns invariant-loop decreases-loop
 returns c =
-    let l = c.before.loop-n in
+    let l = c.loop-n in
     let laid = l.invariant.1 in (
       laying-all (search rules) (omega arith) laid.0 laid.1,
       record {

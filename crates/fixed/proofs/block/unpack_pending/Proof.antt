@@ -45,21 +45,21 @@ loop-less c = search rules
 
 loop-again : tie.Need-loop-n-preserved invariant-loop decreases-loop
 loop-again c =
-    let a = c.before.before.before.before.before.args in
-    let l = c.before.before.before.before.loop-n in
+    let a = c.args in
+    let l = c.loop-n in
     let m = get_or a.t1 l.n no_pending in
     simp (held w32 m.e (search rules), held w32 m.err (search rules))
     (omega arith, filled_next l.invariant.1 (omega arith), filled_next l.invariant.2 (omega arith))
 
 same_length : tie.Need-shape_of-e invariant-loop decreases-loop
-same_length c = c.before.loop-n.invariant.1.long
+same_length c = c.loop-n.invariant.1.long
 
 same-length-2 : tie.Need-shape_of-err invariant-loop decreases-loop
-same-length-2 c = c.before.loop-n.invariant.2.long
+same-length-2 c = c.loop-n.invariant.2.long
 
 returns : tie.Need-returns invariant-loop decreases-loop
 returns c =
-    let l = c.before.loop-n in
+    let l = c.loop-n in
     record {
       long-e = omega arith;
       long-err = omega arith;

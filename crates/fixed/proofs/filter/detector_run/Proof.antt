@@ -16,7 +16,7 @@ decreases-loop h g i q a₀ b₀ n₀ a b n = length h - n
 
 loop-holds : tie.Need-loop-n-init invariant-loop decreases-loop
 loop-holds c =
-    let a = c.before.before.before.before.args in
+    let a = c.args in
     (omega arith, (added_none a.h.now a.i.now a.q.now a.before.h, added_none a.g.now a.i.now a.q.now a.before.g))
 
 -- ---- a turn
@@ -104,8 +104,8 @@ with-products-requires c κs =
     let left = t.loop-n-test.true in
     let z = get_or (h b) b.loop-n.n (pos 0) in
     let small : nat_abs (to_z w32 (of_z w32 z)) ≤ 131071 = rw (held w32 z c.with_products-arg-1.given) (h-each b left) in
-    let x = handed-small (get_or (i b) b.loop-n.n 0) (at_i b left) c.before.before.before.lower-x.ensures in
-    let y = handed-small (get_or (q b) b.loop-n.n 0) (at-q b left) c.before.lower-y.ensures in
+    let x = handed-small (get_or (i b) b.loop-n.n 0) (at_i b left) c.lower-x.ensures in
+    let y = handed-small (get_or (q b) b.loop-n.n 0) (at-q b left) c.lower-y.ensures in
     (h-so-far b left, (small, (x, y)))
 
 mul-with-products-2 : tie.Need-offset_bounds-g-n invariant-loop decreases-loop
@@ -124,8 +124,8 @@ with-products-requires-2 c κs =
     let left = t.loop-n-test.true in
     let z = get_or (g b) b.loop-n.n (pos 0) in
     let small : nat_abs (to_z w32 (of_z w32 z)) ≤ 131071 = rw (held w32 z c.with_products-arg-in-loop-n-1.given) (g-each b left) in
-    let x = handed-small (get_or (i b) b.loop-n.n 0) (at_i b left) c.before.before.before.before.before.lower-x.ensures in
-    let y = handed-small (get_or (q b) b.loop-n.n 0) (at-q b left) c.before.before.before.lower-y.ensures in
+    let x = handed-small (get_or (i b) b.loop-n.n 0) (at_i b left) c.lower-x.ensures in
+    let y = handed-small (get_or (q b) b.loop-n.n 0) (at-q b left) c.lower-y.ensures in
     (g-so-far b left, (small, (x, y)))
 
 add-n : tie.Need-overflow_add-n invariant-loop decreases-loop
@@ -146,8 +146,8 @@ loop-again c =
     let left = t.loop-n-test.true in
     let x = handed (get_or (i b) b.loop-n.n 0) (at_i b left) lowered-i.lower-x.ensures in
     let y = handed (get_or (q b) b.loop-n.n 0) (at-q b left) lowered-q.lower-y.ensures in
-    let in-h = simp (held w32 (get_or (h b) b.loop-n.n (pos 0)) first.before.with_products-arg-1.given, x, y) at first.with_products-a.ensures in
-    let in_g = simp (held w32 (get_or (g b) b.loop-n.n (pos 0)) c.before.with_products-arg-in-loop-n-1.given, x, y) at c.with_products-b.ensures in
+    let in-h = simp (held w32 (get_or (h b) b.loop-n.n (pos 0)) first.with_products-arg-1.given, x, y) at first.with_products-a.ensures in
+    let in_g = simp (held w32 (get_or (g b) b.loop-n.n (pos 0)) c.with_products-arg-in-loop-n-1.given, x, y) at c.with_products-b.ensures in
     rw (in-h, in_g) (
       omega (arith, left),
       (

@@ -57,18 +57,18 @@ module _ (c : tie.After-clamped-end) where
 
   -- Where the share begins, and where it ends.
   abbrev begin : ℕ
-  begin = c.before.clamped-begin.result
+  begin = c.clamped-begin.result
 
   abbrev end : ℕ
   end = c.clamped-end.result
 
   share : (row : List ℤ) → length row ≡ length k → Share (low row) (low row + wide row) from (from + count) begin end
   share row e =
-      let d = c.before.before.detector_of-d.ensures in
-      let at_low : c.before.before.detector_of-d.result.low ≡ low row = d.0 ∙ ap (λ (n : ℕ). (n - 8) / 2) (sym e) in
-      let at_high : c.before.before.detector_of-d.result.high ≡ low row + wide row = d.1 ∙ (λ t. at_low t + min 8 (sym e t)) in
+      let d = c.detector_of-d.ensures in
+      let at_low : c.detector_of-d.result.low ≡ low row = d.0 ∙ ap (λ (n : ℕ). (n - 8) / 2) (sym e) in
+      let at_high : c.detector_of-d.result.high ≡ low row + wide row = d.1 ∙ (λ t. at_low t + min 8 (sym e t)) in
       let begins : min (max (low row) from) (from + count) ≡ begin =
-      sym (c.before.clamped-begin.ensures ∙ ap (λ (n : ℕ). min (max n from) (from + count)) at_low) in
+      sym (c.clamped-begin.ensures ∙ ap (λ (n : ℕ). min (max n from) (from + count)) at_low) in
       let ends : min (max (low row + wide row) from) (from + count) ≡ end =
       sym (c.clamped-end.ensures ∙ ap (λ (n : ℕ). min (max n from) (from + count)) at_high) in
       subst (λ (n : ℕ). Share (low row) (low row + wide row) from (from + count) n end) begins

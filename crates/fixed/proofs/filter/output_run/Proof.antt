@@ -15,7 +15,7 @@ abbrev decreases-loop : tie.decreases-loop-n
 decreases-loop k i q s₀ n₀ s n = length k - n
 
 loop-holds : tie.Need-loop-n-init invariant-loop decreases-loop
-loop-holds c = let a = c.before.before.args in (omega arith, taken_none a.k.now a.i.now a.q.now a.before)
+loop-holds c = let a = c.args in (omega arith, taken_none a.k.now a.i.now a.q.now a.before)
 
 -- ---- a turn
 
@@ -67,7 +67,7 @@ with-tap-requires c κs =
     let b = t.before in
     let z = get_or (row b) b.loop-n.n (pos 0) in
     let left = t.loop-n-test.true in
-    let small : nat_abs (to_z w32 (of_z w32 z)) ≤ 131071 = rw (held w32 z c.before.before.with_tap-arg-1.given) (each b left) in
+    let small : nat_abs (to_z w32 (of_z w32 z)) ≤ 131071 = rw (held w32 z c.with_tap-arg-1.given) (each b left) in
     (so_far b left, (small, (at_i b left, at-q b left)))
 
 add-n : tie.Need-overflow_add-n invariant-loop decreases-loop
@@ -81,7 +81,7 @@ loop-again c =
     let t = c.before.before.before.before in
     let b = t.before in
     let left = t.loop-n-test.true in
-    let told = simp (held w32 (get_or (row b) b.loop-n.n (pos 0)) c.before.before.before.with_tap-arg-1.given) at c.with_tap-s.ensures in
+    let told = simp (held w32 (get_or (row b) b.loop-n.n (pos 0)) c.with_tap-arg-1.given) at c.with_tap-s.ensures in
     rw told (omega (arith, left), taken_more (each b left) (at_i b left) (at-q b left) b.loop-n.invariant.1)
 
 returns : tie.Need-returns invariant-loop decreases-loop

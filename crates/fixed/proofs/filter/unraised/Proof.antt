@@ -54,14 +54,14 @@ module _ (u v : ℕ) (hu : u ≤ 64 * 2 ^ 50) (hv : v ≤ 64 * 2 ^ 32) where
 
 cast-raised : tie.Need-overflow_cast-raised
 cast-raised c =
-    let s = c.before.before.args.s in
-    let h = c.before.before.requires.coefficients in
+    let s = c.args.s in
+    let h = c.requires.coefficients in
     rw (back w32 s.coefficients (omega arith)) (sfit {z = s.coefficients} (omega arith))
 
 mul-raised : tie.Need-overflow_mul-raised
 mul-raised c =
-    let s = c.before.before.args.s in
-    let h = c.before.before.requires.coefficients in
+    let s = c.args.s in
+    let h = c.requires.coefficients in
     rw (coefficients-is s.coefficients h) (sfit {z = s.coefficients *ℤ pos 2147483648} (omega (arith, raised-small s.coefficients h)))
 
 cast-t3 : tie.Need-overflow_cast-result

@@ -38,10 +38,10 @@ module _ {a b c d : ℤ} (f : SFits w16 a) (g : SFits w16 b) (h : SFits w16 c) (
 
 -- ---- the four numbers
 
-cos-fits : (c : tie.After-c-1) → SFits w16 (get_or c.before.args.cos.now (c.before.args.nco / 2 ^ 22) (pos 0))
+cos-fits : (c : tie.After-c-1) → SFits w16 (get_or c.args.cos.now (c.args.nco / 2 ^ 22) (pos 0))
 cos-fits c = record { sfits = c.c-1.given }
 
-sin-fits : (c : tie.After-s-1) → SFits w16 (get_or c.before.before.args.cos.now ((c.before.before.args.nco / 2 ^ 22 + 768) % 1024) (pos 0))
+sin-fits : (c : tie.After-s-1) → SFits w16 (get_or c.args.cos.now ((c.args.nco / 2 ^ 22 + 768) % 1024) (pos 0))
 sin-fits c = record { sfits = c.s-1.given }
 
 cast-at : tie.Need-overflow_cast-at
@@ -69,45 +69,45 @@ cast-s : tie.Need-overflow_cast-s
 cast-s c = widens w64 tt (sin-fits c)
 
 cast-x : tie.Need-overflow_cast-x
-cast-x c = widens w64 tt c.before.before.ranges.i
+cast-x c = widens w64 tt c.ranges.i
 
 cast-y : tie.Need-overflow_cast-y
-cast-y c = widens w64 tt c.before.before.ranges.q
+cast-y c = widens w64 tt c.ranges.q
 
 -- ---- in phase
 
 mul-without-scale : tie.Need-overflow_mul-x
-mul-without-scale c = product-fits c.before.before.ranges.i (cos-fits c.before)
+mul-without-scale c = product-fits c.ranges.i (cos-fits c.before)
 
 mul-without-scale-2 : tie.Need-overflow_mul-y
-mul-without-scale-2 c = product-fits c.before.before.ranges.q (sin-fits c)
+mul-without-scale-2 c = product-fits c.ranges.q (sin-fits c)
 
 sub-without-scale : tie.Need-overflow_sub-x
 sub-without-scale c =
-    let f = c.before.before.ranges in
+    let f = c.ranges in
     difference-fits f.i (cos-fits c.before) f.q (sin-fits c)
 
 without-scale-requires : tie.Need-without_scale-requires
 without-scale-requires c κs =
-    let f = c.before.before.ranges in
+    let f = c.ranges in
     rw (difference-is f.i (cos-fits c.before) f.q (sin-fits c)) (omega (arith, difference-abs f.i (cos-fits c.before) f.q (sin-fits c)))
 
 -- ---- in quadrature
 
 mul-without-scale-3 : tie.Need-overflow_mul-x-2
-mul-without-scale-3 c = product-fits c.before.before.before.ranges.i (sin-fits c.before)
+mul-without-scale-3 c = product-fits c.ranges.i (sin-fits c.before)
 
 mul-without-scale-4 : tie.Need-overflow_mul-y-2
-mul-without-scale-4 c = product-fits c.before.before.before.ranges.q (cos-fits c.before.before)
+mul-without-scale-4 c = product-fits c.ranges.q (cos-fits c.before.before)
 
 add-without-scale : tie.Need-overflow_add-x
 add-without-scale c =
-    let f = c.before.before.before.ranges in
+    let f = c.ranges in
     sum_fits f.i (sin-fits c.before) f.q (cos-fits c.before.before)
 
 without-scale-requires-2 : tie.Need-without_scale-requires-2
 without-scale-requires-2 c κs =
-    let f = c.before.before.before.ranges in
+    let f = c.ranges in
     rw (sum_is f.i (sin-fits c.before) f.q (cos-fits c.before.before))
     (omega (arith, sum-abs f.i (sin-fits c.before) f.q (cos-fits c.before.before)))
 
@@ -118,7 +118,7 @@ returns c =
     let f = s.ranges in
     let x = cos-fits c.before.before.before in
     let y = sin-fits c.before.before in
-    let u = c.before.without_scale in
+    let u = c.without_scale in
     let w = c.without_scale-2 in
     let i = held w32 u.result u.type_inv ∙ u.ensures ∙ ap unscaled (difference-is f.i x f.q y) in
     let q = held w32 w.result w.type_inv ∙ w.ensures ∙ ap unscaled (sum_is f.i y f.q x) in

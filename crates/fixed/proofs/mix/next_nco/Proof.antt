@@ -17,15 +17,15 @@ wrapping-add-u32-requires : tie.Need-wrapping_add_u32-requires
 wrapping-add-u32-requires c κs = search rules
 
 -- the step as 32 bits unsigned
-wrapped : (c : tie.After-wrap_u32) → Modulo c.before.args.step c.wrap_u32.result
-wrapped c = rw (simp (widened w64 tt c.before.ranges.step) at c.wrap_u32.ensures) (mod-is c.before.args.step)
+wrapped : (c : tie.After-wrap_u32) → Modulo c.args.step c.wrap_u32.result
+wrapped c = rw (simp (widened w64 tt c.ranges.step) at c.wrap_u32.ensures) (mod-is c.args.step)
 
 -- added to a number
 added : (n m : ℕ) (z : ℤ) → Modulo z m → Modulo (pos n +ℤ z) ((n + m) % 2 ^ 32)
 added n m z e = record { small = omega arith; alike = let s = add-pn (pos n) z in omega arith }
 
 returns : tie.Need-returns
-returns c = c.wrapping_add_u32.ensures ∙ mod-only _ _ (added c.before.before.args.nco _ _ (wrapped c.before))
+returns c = c.wrapping_add_u32.ensures ∙ mod-only _ _ (added c.args.nco _ _ (wrapped c.before))
 
 pub next_nco_spec : {M : Type 1} → statement M
 next_nco_spec = tie.close (tie.spec cast-wrap-u32 wrap-u32-requires wrapping-add-u32-requires returns)

@@ -19,7 +19,7 @@ add-t6 c = search rules
 returns : tie.Need-returns-then-is_due
 returns c =
     let t = c.before.before.before in
-    rw (sym t.before.is_due.ensures ∙ t.if-is_due.true, c.before.in_ring.ensures) refl
+    rw (sym t.is_due.ensures ∙ t.if-is_due.true, c.in_ring.ensures) refl
 
 add-t7 : tie.Need-overflow_add-result-2
 add-t7 c = search rules
@@ -28,7 +28,7 @@ add-t8 : tie.Need-overflow_add-result-3
 add-t8 c = search rules
 
 returns-2 : tie.Need-returns
-returns-2 c = let t = c.before.before in rw (sym t.before.is_due.ensures ∙ t.if-is_due.false) refl
+returns-2 c = let t = c.before.before in rw (sym t.is_due.ensures ∙ t.if-is_due.false) refl
 
 pub after_symbol_spec : {M : Type 1} → statement M
 after_symbol_spec =

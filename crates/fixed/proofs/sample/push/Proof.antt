@@ -60,14 +60,14 @@ raise-requires c κs = search rules
 -- the sample's place lies within the line, and the line within its arrays
 inside : (c : tie.After-next_head-head) → c.next_head-head.result < 64
 inside c =
-    let fits = head-fits c.before.before.before.before.before.requires.1 in
+    let fits = head-fits c.requires.1 in
     subst (λ (n : ℕ). n < 64) (sym c.next_head-head.ensures) (omega (arith, fits.0, fits.1))
 
 mul-i : tie.Need-offset_bounds-i-head
 mul-i c = record { fits = omega (arith, inside c.before.before) }
 
 slice-write-i : tie.Need-bounds-i-head
-slice-write-i c = let h = c.before.before in omega (arith, inside h, h.before.before.before.before.before.requires.1.begun.line.long-i)
+slice-write-i c = let h = c.before.before in omega (arith, inside h, h.requires.1.begun.line.long-i)
 
 raise-requires-2 : tie.Need-raise-requires-2
 raise-requires-2 c κs = search rules
@@ -76,7 +76,7 @@ mul-q : tie.Need-offset_bounds-q-head
 mul-q c = record { fits = omega (arith, inside c.before.before.before.before) }
 
 slice-write-q : tie.Need-bounds-q-head
-slice-write-q c = let h = c.before.before.before.before in omega (arith, inside h, h.before.before.before.before.before.requires.1.begun.line.long-q)
+slice-write-q c = let h = c.before.before.before.before in omega (arith, inside h, h.requires.1.begun.line.long-q)
 
 next-nco-requires : tie.Need-next_nco-requires
 next-nco-requires c κs = search rules
@@ -97,22 +97,22 @@ module _ (c : tie.After-struct_told-5-1) where
   abbrev b : tie.Start
   b = head_at.before.before.before.before.before
 
-  mix-is : head_at.before.mix-m.result ≡ mixed b.args.r.nco (pair b)
-  mix-is = simp (to_z-of_z b.ranges.x, to_z-of_z b.ranges.y) at head_at.before.mix-m.ensures
+  mix-is : head_at.mix-m.result ≡ mixed b.args.r.nco (pair b)
+  mix-is = simp (to_z-of_z b.ranges.x, to_z-of_z b.ranges.y) at head_at.mix-m.ensures
 
   raised-i : lowered first.raise.result ≡ (mixed b.args.r.nco (pair b)).i
   raised-i =
-      first.raise.ensures.0 ∙ held w32 head_at.before.mix-m.result.i first.before.struct_told-1.given.0.1
+      first.raise.ensures.0 ∙ held w32 head_at.mix-m.result.i first.struct_told-1.given.0.1
       ∙ ap (λ (m : Pair). m.i) mix-is
 
   raised-q : lowered second.raise-2.result ≡ (mixed b.args.r.nco (pair b)).q
   raised-q =
-      second.raise-2.ensures.0 ∙ held w32 head_at.before.mix-m.result.q second.before.struct_told-2-1.given.1.0.1
+      second.raise-2.ensures.0 ∙ held w32 head_at.mix-m.result.q second.struct_told-2-1.given.1.0.1
       ∙ ap (λ (m : Pair). m.q) mix-is
 
   nco-is : nco-at.next_nco.result ≡ next_nco b.args.p b.args.r.nco
   unfolding next_nco
-  nco-is = simp (held w32 b.args.p.nco_step nco-at.before.struct_told-3-1.given.1.0.1) at nco-at.next_nco.ensures
+  nco-is = simp (held w32 b.args.p.nco_step nco-at.struct_told-3-1.given.1.0.1) at nco-at.next_nco.ensures
 
   -- What is kept now.
   abbrev turned : Registers
@@ -165,7 +165,7 @@ module _ (c : tie.After-struct_told-5-1) where
 with-symbol-requires : tie.Need-with_symbol-requires
 with-symbol-requires c κs =
     let d = c.before.before.before.before.before in
-    (ready-now d, c.before.before.before.before.if-r-lt16777216.true)
+    (ready-now d, c.if1.true)
 
 same_length : tie.Need-shape_of-i-then-r-lt16777216
 same_length c = search rules
@@ -183,7 +183,7 @@ returns : tie.Need-returns-then-r-lt16777216
 returns c =
     let w = c.before.before in
     let d = w.before.before.before.before.before.before in
-    let test = w.before.before.before.before.before.if-r-lt16777216.true in
+    let test = w.if1.true in
     let made = w.with_symbol.ensures.0 in
     let makes = w.with_symbol.ensures.1 in
     let z : Kept =
@@ -217,7 +217,7 @@ same-length-6 c = search rules
 returns-2 : tie.Need-returns
 returns-2 c =
     let d = c.before.before in
-    let test = c.before.if-r-lt16777216.false in
+    let test = c.if-r-lt16777216.false in
     let out = c.without_symbol.result in
     let e = c.without_symbol.ensures in
     let z : Kept = kept (y d).i (y d).q (y d).e (y d).err out.registers out.position in

@@ -81,8 +81,8 @@ module _ (c : tie.After-after_symbol-stepped) where
   stepped =
       let a = at.args in
       let due = c.before in
-      c.after_symbol-stepped.ensures ∙ ap (λ (b : Bool). after_symbol a.p a.r b due.before.oldest-oldest.result) due.is_due.ensures
-      ∙ ap (after_symbol a.p a.r (is_due a.p.delay a.w.waiting)) due.before.oldest-oldest.ensures ∙ step_is at.requires.0 at.requires.1
+      c.after_symbol-stepped.ensures ∙ ap (λ (b : Bool). after_symbol a.p a.r b due.oldest-oldest.result) due.is_due.ensures
+      ∙ ap (after_symbol a.p a.r (is_due a.p.delay a.w.waiting)) due.oldest-oldest.ensures ∙ step_is at.requires.0 at.requires.1
 
   registers-are : c.after_symbol-stepped.result.registers ≡ left (due_in at.args.p (x at))
   registers-are = ap (λ (z : AfterSymbol). z.registers) stepped
@@ -146,12 +146,12 @@ module _ (c : tie.After-after_symbol-position) where
   timing-queued : joined.join.new.e ≡ set b.args.e.now ((b.args.w.oldest + b.args.w.waiting) % ring_places) made.make-symbol.result.e
   timing-queued =
       joined.join.ensures.0
-      ∙ ap (set b.args.e.now _) (held w32 made.make-symbol.result.e joined.before.before.struct_told-2-1.given.1.1.1.1.1.1.1.1.1.1.1.0.1)
+      ∙ ap (set b.args.e.now _) (held w32 made.make-symbol.result.e joined.struct_told-2-1.given.1.1.1.1.1.1.1.1.1.1.1.0.1)
 
   gain-queued : joined.join.new.err ≡ set b.args.err.now ((b.args.w.oldest + b.args.w.waiting) % ring_places) made.make-symbol.result.err
   gain-queued =
       joined.join.ensures.1
-      ∙ ap (set b.args.err.now _) (held w32 made.make-symbol.result.err joined.before.struct_told-3-1.given.1.1.1.1.1.1.1.1.1.1.1.1.0.1)
+      ∙ ap (set b.args.err.now _) (held w32 made.make-symbol.result.err joined.struct_told-3-1.given.1.1.1.1.1.1.1.1.1.1.1.1.0.1)
 
   kept-is : kept_with b.args.p (x b) made.make-symbol.result.e made.make-symbol.result.err ≡ y
   kept-is =
@@ -161,14 +161,14 @@ module _ (c : tie.After-after_symbol-position) where
   -- the symbol is made of the gain and the period that the registers then have
   made-is : made.make-symbol.result
       ≡ (let d : Registers = left (due_in b.args.p (x b)) in
-      symbol_from b.args.p (d.gain_acc / 256) d.period b.args.w.samples (phase b) made.before.before.sums_at-sums.result)
+      symbol_from b.args.p (d.gain_acc / 256) d.period b.args.w.samples (phase b) made.sums_at-sums.result)
   made-is =
       let a = b.args in
-      let sums = made.before.before.sums_at-sums.result in
+      let sums = made.sums_at-sums.result in
       let d : Registers = left (due_in a.p (x b)) in
       let small : d.gain_acc / 256 % 65536 ≡ d.gain_acc / 256 = omega (arith, step-gain b.requires.0) in
-      let gain : made.before.gain.result ≡ d.gain_acc / 256 =
-      made.before.gain.ensures ∙ ap (λ (r : Registers). r.gain_acc / 256 % 65536) (registers-are moved) ∙ small in
+      let gain : made.gain.result ≡ d.gain_acc / 256 =
+      made.gain.ensures ∙ ap (λ (r : Registers). r.gain_acc / 256 % 65536) (registers-are moved) ∙ small in
       made.make-symbol.ensures
       ∙ (λ t. symbol_from a.p (gain t) (registers-are moved t).period a.w.samples (phase b) sums)
 
@@ -179,7 +179,7 @@ module _ (c : tie.After-after_symbol-position) where
       let d : Registers = left (due_in a.p (x b)) in
       made-is
       ∙ ap (symbol_from a.p (d.gain_acc / 256) d.period a.w.samples (phase b))
-      (made.before.before.sums_at-sums.ensures f.line stands.line)
+      (made.sums_at-sums.ensures f.line stands.line)
       ∙ stands-symbol b.requires.0 f stands (phase b) (phase-at b)
 
   makes : MakesSymbol (sheet b) (x b) y made.make-symbol.result

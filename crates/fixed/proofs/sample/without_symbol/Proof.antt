@@ -11,8 +11,8 @@ use Rattle.fixed.proofs.sample.without_symbol.Tie as tie
 time-abs : (s : tie.Start) → nat_abs (s.args.r.t_acc -ℤ one) < 2 ^ 63
 time-abs s = omega (arith, s.requires, abs-minus s.args.r.t_acc one)
 
-time-held : (c : tie.After-struct_told-1) → let z = c.before.before.args.r.t_acc in to_z w64 (of_z w64 z) ≡ z
-time-held c = held w64 c.before.before.args.r.t_acc (search c.struct_told-1.given depth 40)
+time-held : (c : tie.After-struct_told-1) → let z = c.args.r.t_acc in to_z w64 (of_z w64 z) ≡ z
+time-held c = held w64 c.args.r.t_acc (search c.struct_told-1.given depth 40)
 
 sub-t5 : tie.Need-overflow_sub-registers
 sub-t5 c = simp (time-held c) (sfit (time-abs c.before.before))
@@ -29,7 +29,7 @@ returns c =
     let s = b.before.before in
     let r = s.args.r in
     let time : to_z w64 (of_z w64 (to_z w64 (of_z w64 r.t_acc) -ℤ one)) ≡ r.t_acc -ℤ one = simp (time-held b) (back w64 (r.t_acc -ℤ one) (time-abs s)) in
-    let v : to_z w64 (of_z w64 r.v) ≡ r.v = held w64 r.v (search c.before.before.struct_told-2-1.given depth 40) in
+    let v : to_z w64 (of_z w64 r.v) ≡ r.v = held w64 r.v (search c.struct_told-2-1.given depth 40) in
     (λ i. record { nco = r.nco; t_acc = time i; v = v i; period = r.period; gain_acc = r.gain_acc; symbols = r.symbols }, (refl, refl))
 
 pub without_symbol_spec : {M : Type 1} → statement M

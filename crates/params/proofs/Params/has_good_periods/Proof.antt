@@ -11,18 +11,18 @@ returns c = simp (le-ltb _ _ c.if-self-le16777216.true)
 
 returns-2 : tie.Need-returns-then-self
 unfolding good_periods
-returns-2 c = simp (lt-ltb _ _ c.before.before.if-self-le16777216.false, lt-leb _ _ c.if-self.true)
+returns-2 c = simp (lt-ltb _ _ c.if-self-le16777216.false, lt-leb _ _ c.if-self.true)
 
 returns-3 : tie.Need-returns-then-self-2
 unfolding good_periods
-returns-3 c = simp (lt-ltb _ _ c.before.before.before.before.if-self-le16777216.false, le-leb _ _ c.before.before.if-self.false, lt-leb _ _ c.if-self-2.true)
+returns-3 c = simp (lt-ltb _ _ c.if-self-le16777216.false, le-leb _ _ c.if-self.false, lt-leb _ _ c.if-self-2.true)
 
 returns-4 : tie.Need-returns
 unfolding good_periods
 returns-4 c = simp (
-  lt-ltb _ _ c.before.before.before.before.before.if-self-le16777216.false,
-  le-leb _ _ c.before.before.before.if-self.false,
-  le-leb _ _ c.before.if-self-2.false,
+  lt-ltb _ _ c.if-self-le16777216.false,
+  le-leb _ _ c.if-self.false,
+  le-leb _ _ c.if-self-2.false,
 )
 
 pub has_good_periods_spec : {M : Type 1} → statement M

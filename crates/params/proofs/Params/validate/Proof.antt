@@ -41,8 +41,7 @@ enum-known-lengths c = search rules
 
 returns : tie.Need-returns-in-Refused
 returns c =
-    let e = c.before.lengths-1.given in
-    lengths-answer _ (error-numbered e.0.0) (refused c.before.before.before.check_lengths-lengths.ensures e.1)
+    lengths-answer _ (error-numbered c.in-Refused.e) (refused c.check_lengths-lengths.ensures c.in-Refused.is)
 
 enum_told : tie.Need-enum_told-1
 enum_told c = search rules
@@ -51,8 +50,8 @@ cast-check-banks : tie.Need-overflow_cast-self
 cast-check-banks c = search rules
 
 in-lengths : (c : tie.In_default)
-    → let a = c.before.before.before.args in length_faults a.self.taps a.h.now a.g.now a.k.now ≡ []
-in-lengths c = passes _ (lengths-numbered _ _ _ _) c.before.before.check_lengths-lengths.ensures c.enum_told-1.given.1
+    → let a = c.args in length_faults a.self.taps a.h.now a.g.now a.k.now ≡ []
+in-lengths c = passes _ (lengths-numbered _ _ _ _) c.check_lengths-lengths.ensures c.in_default.is
 
 check-banks-requires : tie.Need-check_banks-in_banks-requires
 check-banks-requires c κs = let g = good-lengths _ _ _ _ (in-lengths c.before) in (g.good.most, (g.long-h, (g.long-g, g.long-k)))
@@ -62,9 +61,8 @@ enum-known-in-banks c = search rules
 
 returns-2 : tie.Need-returns-in-Refused-in_banks
 returns-2 c =
-    let e = c.before.in_banks-1.given in
-    banks-answer _ (in-lengths c.before.before.before.before.before) (error-numbered e.0.0)
-    (refused c.before.before.before.check_banks-in_banks.ensures e.1)
+    banks-answer _ (in-lengths c.before.before.before) (error-numbered c.in-Refused-in_banks.e)
+    (refused c.check_banks-in_banks.ensures c.in-Refused-in_banks.is)
 
 enum-told-2 : tie.Need-enum_told-in_default-in_banks
 enum-told-2 c = search rules
@@ -73,11 +71,11 @@ check-fields-requires : tie.Need-check_fields-requires
 check-fields-requires c κs = search rules
 
 in-banks : (c : tie.In_default-in_banks)
-    → let a = c.before.before.before.before.before.before.before.args in bank_faults a.self.taps a.h.now a.g.now a.k.now ≡ []
-in-banks c = passes _ (banks-numbered _ _ _ _) c.before.before.check_banks-in_banks.ensures c.enum_told-in_default-in_banks-1.given.1
+    → let a = c.args in bank_faults a.self.taps a.h.now a.g.now a.k.now ≡ []
+in-banks c = passes _ (banks-numbered _ _ _ _) c.check_banks-in_banks.ensures c.in_default-in_banks.is
 
 returns-3 : tie.Need-returns
-returns-3 c = fields-answer _ (in-lengths c.before.before.before.before.before) (in-banks c.before) c.check_fields.ensures
+returns-3 c = fields-answer _ (in-lengths c.before.before.before.before) (in-banks c.before) c.check_fields.ensures
 
 pub validate_spec : {M : Type 1} → statement M
 validate_spec =

@@ -25,17 +25,16 @@ enum-known-in-h c = search rules
 returns : tie.Need-returns-in-Refused
 unfolding bank_faults
 returns c =
-    let h = c.before.before.before.check_rows-a in
-    let e = c.before.in_h-1.given in
-    let f : First _ (error_refusal e.0.0) = stop (error-numbered e.0.0) (refused h.ensures.0 e.1) in
+    let h = c.check_rows-a in
+    let f : First _ (error_refusal c.in-Refused.e) = stop (error-numbered c.in-Refused.e) (refused h.ensures.0 c.in-Refused.is) in
     f.is
 
 enum_told : tie.Need-enum_told-1
 enum_told c = search rules
 
 -- h has no fault in its rows
-in-h : (c : tie.In_default) → rows_faults c.before.before.before.args.taps 0 c.before.before.before.args.h.now 0 64 ≡ []
-in-h c = let a = c.before.before.before.args in passes a.taps 0 a.h.now c.before.before.check_rows-a.ensures.0 c.enum_told-1.given.1
+in-h : (c : tie.In_default) → rows_faults c.args.taps 0 c.args.h.now 0 64 ≡ []
+in-h c = let a = c.args in passes a.taps 0 a.h.now c.check_rows-a.ensures.0 c.in_default.is
 
 check-rows-requires-2 : tie.Need-check_rows-b-requires
 check-rows-requires-2 c κs = search rules
@@ -46,19 +45,18 @@ enum-known-in-g c = search rules
 returns-2 : tie.Need-returns-in-Refused-in_g
 unfolding bank_faults
 returns-2 c =
-    let g = c.before.before.before.check_rows-b in
-    let e = c.before.in_g-1.given in
-    let f : First _ (error_refusal e.0.0) =
-    skip (in-h c.before.before.before.before) (stop (error-numbered e.0.0) (refused g.ensures.0 e.1)) in
+    let g = c.check_rows-b in
+    let f : First _ (error_refusal c.in-Refused-in_g.e) =
+    skip (in-h c.before.before) (stop (error-numbered c.in-Refused-in_g.e) (refused g.ensures.0 c.in-Refused-in_g.is)) in
     f.is
 
 enum-told-2 : tie.Need-enum_told-in_default-in_g
 enum-told-2 c = search rules
 
-in_g : (c : tie.In_default-in_g) → let a = c.before.before.before.before.before.before.args in rows_faults a.taps 1 a.g.now 0 64 ≡ []
+in_g : (c : tie.In_default-in_g) → let a = c.args in rows_faults a.taps 1 a.g.now 0 64 ≡ []
 in_g c =
-    let a = c.before.before.before.before.before.before.args in
-    passes a.taps 1 a.g.now c.before.before.check_rows-b.ensures.0 c.enum_told-in_default-in_g-1.given.1
+    let a = c.args in
+    passes a.taps 1 a.g.now c.check_rows-b.ensures.0 c.in_default-in_g.is
 
 check-rows-requires-3 : tie.Need-check_rows-c-requires
 check-rows-requires-3 c κs = search rules
@@ -69,11 +67,10 @@ enum-known-in-k c = search rules
 returns-3 : tie.Need-returns-in-Refused-in_k
 unfolding bank_faults
 returns-3 c =
-    let k = c.before.before.before.check_rows-c in
-    let b = c.before.before.before.before in
-    let e = c.before.in_k-1.given in
-    let f : First _ (error_refusal e.0.0) =
-    skip (in-h b.before.before.before) (skip (in_g b) (stop (error-numbered e.0.0) (refused k.ensures.0 e.1))) in
+    let k = c.check_rows-c in
+    let b = c.before.before in
+    let f : First _ (error_refusal c.in-Refused-in_k.e) =
+    skip (in-h b.before.before) (skip (in_g b) (stop (error-numbered c.in-Refused-in_k.e) (refused k.ensures.0 c.in-Refused-in_k.is))) in
     f.is
 
 enum-told-3 : tie.Need-enum_told-in_default-in_k
@@ -83,51 +80,51 @@ enum-told-3 c = search rules
 
 -- the lists before 5 have nothing, so an answer to it is one to all
 past : (c : tie.In_default-in_k) {r : Refusal} {ls : List (List Refusal)}
-    → let a = c.before.before.before.before.before.before.before.before.before.args in
+    → let a = c.args in
     First ls r → First (rows_faults a.taps 0 a.h.now 0 64 ∷ rows_faults a.taps 1 a.g.now 0 64 ∷ rows_faults a.taps 2 a.k.now 0 64 ∷ ls) r
 past c f =
-    let a = c.before.before.before.before.before.before.before.before.before.args in
-    skip (in-h c.before.before.before.before.before.before) (skip (in_g c.before.before.before)
-    (skip (passes a.taps 2 a.k.now c.before.before.check_rows-c.ensures.0 c.enum_told-in_default-in_k-1.given.1) f))
+    let a = c.args in
+    skip (in-h c.before.before.before.before) (skip (in_g c.before.before)
+    (skip (passes a.taps 2 a.k.now c.check_rows-c.ensures.0 c.in_default-in_k.is) f))
 
 -- what the rows of h and of g were found to be outside the detector's places
 outside-h : (c : tie.In_default)
-    → c.before.before.check_rows-a.result.centred ≡ rows_outside c.before.before.before.args.taps c.before.before.before.args.h.now 0 64
-outside-h c = c.before.before.check_rows-a.ensures.1 refl (ap verdict_refusal c.enum_told-1.given.1)
+    → c.check_rows-a.result.centred ≡ rows_outside c.args.taps c.args.h.now 0 64
+outside-h c = c.check_rows-a.ensures.1 refl (ap verdict_refusal c.in_default.is)
 
 outside-g : (c : tie.In_default-in_g)
-    → let a = c.before.before.before.before.before.before.args in
-    c.before.before.check_rows-b.result.centred ≡ rows_outside a.taps a.g.now 0 64
-outside-g c = c.before.before.check_rows-b.ensures.1 refl (ap verdict_refusal c.enum_told-in_default-in_g-1.given.1)
+    → let a = c.args in
+    c.check_rows-b.result.centred ≡ rows_outside a.taps a.g.now 0 64
+outside-g c = c.check_rows-b.ensures.1 refl (ap verdict_refusal c.in_default-in_g.is)
 
 returns-4 : tie.Need-returns-then-not-a
 unfolding bank_faults
 returns-4 c =
     let t = c.before.before in
-    let h = t.before.before.before.before.before.before in
-    let f : First _ _ = past t (breaks (lit< tt) (sym (outside-h h) ∙ not-true h.before.before.check_rows-a.result.centred c.if-not-a.true)) in
+    let h = t.before.before.before.before in
+    let f : First _ _ = past t (breaks (lit< tt) (sym (outside-h h) ∙ not-true _ c.if-not-a.true)) in
     f.is
 
 returns-5 : tie.Need-returns-then-not-b
 unfolding bank_faults
 returns-5 c =
     let t = c.before.before.before.before in
-    let g = t.before.before.before in
-    let h = g.before.before.before in
+    let g = t.before.before in
+    let h = g.before.before in
     let f : First _ _ =
-    past t (keeps _ (sym (outside-h h) ∙ not-false h.before.before.check_rows-a.result.centred c.before.before.if-not-a.false)
-    (breaks (lit< tt) (sym (outside-g g) ∙ not-true g.before.before.check_rows-b.result.centred c.if-not-b.true))) in
+    past t (keeps _ (sym (outside-h h) ∙ not-false _ c.if-not-a.false)
+    (breaks (lit< tt) (sym (outside-g g) ∙ not-true _ c.if-not-b.true))) in
     f.is
 
 returns-6 : tie.Need-returns
 unfolding bank_faults
 returns-6 c =
     let t = c.before.before.before.before in
-    let g = t.before.before.before in
-    let h = g.before.before.before in
+    let g = t.before.before in
+    let h = g.before.before in
     let f : First _ _ =
-    past t (keeps _ (sym (outside-h h) ∙ not-false h.before.before.check_rows-a.result.centred c.before.before.if-not-a.false)
-    (keeps _ (sym (outside-g g) ∙ not-false g.before.before.check_rows-b.result.centred c.if-not-b.false) none)) in
+    past t (keeps _ (sym (outside-h h) ∙ not-false _ c.if-not-a.false)
+    (keeps _ (sym (outside-g g) ∙ not-false _ c.if-not-b.false) none)) in
     f.is
 
 pub check_banks_spec : {M : Type 1} → statement M

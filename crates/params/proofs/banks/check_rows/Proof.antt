@@ -22,8 +22,8 @@ loop-holds c = (omega arith, omega arith, refl, λ t. refl)
 
 -- in a turn: the row lies within the bank
 module _ (c : tie.In-loop-phase invariant-loop decreases-loop) where
-  inside : c.before.loop-phase.at + c.before.before.args.taps ≤ 64 * c.before.before.args.taps
-  inside = rw c.before.loop-phase.invariant.1 (row_inside c.before.before.args.taps c.before.before.args.cs.now c.before.loop-phase.phase (omega arith))
+  inside : c.loop-phase.at + c.args.taps ≤ 64 * c.args.taps
+  inside = rw c.loop-phase.invariant.1 (row_inside c.args.taps c.args.cs.now c.loop-phase.phase (omega arith))
 
 add-end : tie.Need-overflow_add-end invariant-loop decreases-loop
 add-end c = omega (arith, inside c)
@@ -43,23 +43,23 @@ part-row-end c = omega (arith, inside c)
 -- the part is the row
 module _ (c : tie.After-row-1 invariant-loop decreases-loop) where
   taps : ℕ
-  taps = c.before.before.before.args.taps
+  taps = c.args.taps
 
   cs : List ℤ
-  cs = c.before.before.before.args.cs.now
+  cs = c.args.cs.now
 
   phase : ℕ
-  phase = c.before.before.loop-phase.phase
+  phase = c.loop-phase.phase
 
-  part : take (c.before.before.loop-phase.at + taps - c.before.before.loop-phase.at) (drop c.before.before.loop-phase.at cs) ≡ row_of taps cs phase
+  part : take (c.loop-phase.at + taps - c.loop-phase.at) (drop c.loop-phase.at cs) ≡ row_of taps cs phase
   unfolding taps cs phase
-  part = row-part c.before.before.before.args.taps c.before.before.before.args.cs.now c.before.before.loop-phase.at
-      c.before.before.loop-phase.phase c.before.before.loop-phase.invariant.1
+  part = row-part c.args.taps c.args.cs.now c.loop-phase.at
+      c.loop-phase.phase c.loop-phase.invariant.1
 
   long : length (row_of taps cs phase) ≡ taps
   unfolding taps cs phase
-  long = row-long c.before.before.before.args.taps c.before.before.before.args.cs.now c.before.before.loop-phase.phase (omega arith)
-      c.before.before.before.requires.1
+  long = row-long c.args.taps c.args.cs.now c.loop-phase.phase (omega arith)
+      c.requires.1
 
 magnitude-sum-requires : tie.Need-magnitude_sum-sum-requires invariant-loop decreases-loop
 unfolding taps cs phase
@@ -79,8 +79,8 @@ returns : tie.Need-returns-then-sum-gt131071 invariant-loop decreases-loop
 unfolding taps cs phase
 returns c =
     let r = c.before.before.before in
-    let a = r.before.before.before.args in
-    let l = r.before.before.loop-phase in
+    let a = r.args in
+    let l = r.loop-phase in
     let told = c.row_error.ensures ∙ ap (λ (row : List ℤ). first_of (row_faults a.bank l.phase row)) (part r) in
     let some = error-numbered c.row_error.result in
     let first = rows-first a.taps a.cs.now a.bank l.phase (omega arith) l.invariant.2 (subst (λ (q : Refusal). 0 < q.number) told some) in
@@ -105,8 +105,8 @@ unfolding taps cs phase
 loop-again c =
     let m = c.before.before in
     let r = m.before in
-    let a = r.before.before.before.args in
-    let l = r.before.before.loop-phase in
+    let a = r.args in
+    let l = r.loop-phase in
     let row = row_of a.taps a.cs.now l.phase in
     let light : magnitudes row ≤ 131071 = omega (arith, sum_is m) in (
       omega arith,
@@ -117,8 +117,8 @@ loop-again c =
 
 returns-2 : tie.Need-returns invariant-loop decreases-loop
 returns-2 c =
-    let a = c.before.before.args in
-    let l = c.before.loop-phase in
+    let a = c.args in
+    let l = c.loop-phase in
     let e : l.phase ≡ 64 = omega arith in (
       sym (ap (λ (n : ℕ). first_of (rows_faults a.taps a.bank a.cs.now 0 n)) (sym e) ∙ ap first_of l.invariant.2),
       λ t q. l.invariant.3 t ∙ ap (rows_outside a.taps a.cs.now 0) e,

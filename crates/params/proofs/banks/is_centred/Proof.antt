@@ -7,7 +7,7 @@ use Rattle.params.proofs.banks.is_centred.Statement.{statement}
 use Rattle.params.proofs.banks.is_centred.Tie as tie
 
 returns : tie.Need-returns-then-row-le8
-returns c = sym (short-centred c.before.args.row.now (omega arith))
+returns c = sym (short-centred c.args.row.now (omega arith))
 
 detector-of-requires : tie.Need-detector_of-d-requires
 detector-of-requires c κs = search rules
@@ -29,12 +29,12 @@ magnitude-sum-requires c κs = search rules
 
 returns-2 : tie.Need-returns
 returns-2 c =
-    let a = c.before.before.before.before.args in
-    let d = c.before.before.detector_of-d in
+    let a = c.args in
+    let d = c.detector_of-d in
     let row = a.row.now in
     let high : d.result.high - d.result.low ≡ min 8 (length row) = omega (arith, d.ensures) in
     let sum : c.magnitude_sum.result ≡ magnitudes (take (d.result.high - d.result.low) (drop d.result.low row)) = c.magnitude_sum.ensures in
-    rw (sum, high, d.ensures.0, c.before.before.before.before.requires.1) (centred row)
+    rw (sum, high, d.ensures.0, c.requires.1) (centred row)
 
 pub is_centred_spec : {M : Type 1} → statement M
 is_centred_spec =

@@ -10,7 +10,7 @@ cast-result : tie.Need-overflow_cast-result
 cast-result c = search rules
 
 returns : tie.Need-returns-then-s
-returns c = c.before.before.narrow_sum-s.ensures c.before.if-s.true
+returns c = c.narrow_sum-s.ensures c.if-s.true
 
 wide-sum-requires : tie.Need-wide_sum-requires
 wide-sum-requires c κs = search rules

@@ -52,13 +52,13 @@ more row i sum inside few m s =
 loop-again : tie.Need-loop-i-preserved invariant-loop decreases-loop
 loop-again c =
     let b = c.before.before.before.before in
-    let row = b.before.args.row.now in
+    let row = b.args.row.now in
     let l = b.loop-i in
-    let one : c.before.magnitude.result ≡ nat_abs (get_or row l.i (pos 0)) =
-    simp (held w32 (get_or row l.i (pos 0)) c.before.before.magnitude-arg-1.given) at c.before.magnitude.ensures in
+    let one : c.magnitude.result ≡ nat_abs (get_or row l.i (pos 0)) =
+    simp (held w32 (get_or row l.i (pos 0)) c.magnitude-arg-1.given) at c.magnitude.ensures in
     rw (c.with_magnitude-s.ensures, one) (
       omega arith,
-      λ e. more row l.i l.s.sum (omega arith) b.before.requires
+      λ e. more row l.i l.s.sum (omega arith) b.requires
           (leb-true (nat_abs (get_or row l.i (pos 0))) 131071 (and_right l.s.small (leb (nat_abs (get_or row l.i (pos 0))) 131071) e))
           (l.invariant.1 (and_left l.s.small (leb (nat_abs (get_or row l.i (pos 0))) 131071) e)),
     )
@@ -66,7 +66,7 @@ loop-again c =
 returns : tie.Need-returns invariant-loop decreases-loop
 returns c =
     let b = c.before in
-    let row = b.before.args.row.now in
+    let row = b.args.row.now in
     λ e. (b.loop-i.invariant.1 e).is ∙ ap magnitudes (take_all b.loop-i.i row (omega arith))
 
 pub narrow_sum_spec : {M : Type 1} → statement M

@@ -28,7 +28,7 @@ shared-slice-copy-out-value c = search rules
 
 -- the coefficient that a turn looks at, and its bits
 abbrev value : tie.After-value-1 invariant-loop decreases-loop → ℤ
-value c = get_or c.before.before.before.args.row.now c.before.before.loop-i.i (pos 0)
+value c = get_or c.args.row.now c.loop-i.i (pos 0)
 
 read : (c : tie.After-value-1 invariant-loop decreases-loop) → to_z w32 (of_z w32 (value c)) ≡ value c
 read c = held w32 (value c) c.value-1.given
@@ -44,8 +44,8 @@ high c t e = not-less (pos 131071) (value c) t (simp (read c) at e)
 
 returns : tie.Need-returns-then-value-ltminus131072 invariant-loop decreases-loop
 returns c =
-    let a = c.before.before.before.before.args in
-    let l = c.before.before.before.loop-i in
+    let a = c.args in
+    let l = c.loop-i in
     let wide : within (negsuc 131071) (pos 131071) (value c.before) ≡ false =
     ap (λ (b : Bool). b && le_z (value c.before) (pos 131071)) (low c.before true c.if-value-ltminus131072.true) in
     simp (read c.before) (sym (coefficient-first a.bank a.phase a.row.now l.i (omega arith) l.invariant.1 wide))
@@ -56,8 +56,8 @@ passed b c e = ap (λ (x : Bool). x && le_z (value c.before) (pos 131071)) (low 
 
 returns-2 : tie.Need-returns-then-value-gt131071 invariant-loop decreases-loop
 returns-2 c =
-    let a = c.before.before.before.before.before.args in
-    let l = c.before.before.before.before.loop-i in
+    let a = c.args in
+    let l = c.loop-i in
     let wide = passed false c.before (high c.before.before true c.if-value-gt131071.true) in
     simp (read c.before.before) (sym (coefficient-first a.bank a.phase a.row.now l.i (omega arith) l.invariant.1 wide))
 
@@ -69,20 +69,20 @@ loop-less c = search rules
 
 loop-again : tie.Need-loop-i-preserved invariant-loop decreases-loop
 loop-again c =
-    let a = c.before.before.before.before.before.args in
-    let l = c.before.before.before.before.loop-i in
+    let a = c.args in
+    let l = c.loop-i in
     let fits = passed true c.before (high c.before.before false c.if-value-gt131071.false) in
     let e : l.i + 1 ≡ suc l.i = omega arith in
     (omega arith, rw e (coefficients-suc a.bank a.phase a.row.now l.i (omega arith) l.invariant.1 fits))
 
 returns-3 : tie.Need-returns invariant-loop decreases-loop
 returns-3 c =
-    let a = c.before.before.args in
-    let l = c.before.loop-i in
+    let a = c.args in
+    let l = c.loop-i in
     let row = a.row.now in
     let none : coefficient_faults a.bank a.phase row ≡ [] = ap (coefficient_faults a.bank a.phase) (sym (take_all l.i row (omega arith)))
     ∙ l.invariant.1 in
-    rw c.before.before.requires.0 (sym (sum_first a.bank a.phase row none (omega (arith, c.before.before.requires.0))))
+    rw c.requires.0 (sym (sum_first a.bank a.phase row none (omega (arith, c.requires.0))))
 
 pub row_error_spec : {M : Type 1} → statement M
 row_error_spec =

@@ -40,18 +40,18 @@ loop-less c = search rules
 
 loop-again : tie.Need-loop-i-preserved invariant-loop decreases-loop
 loop-again c =
-    let row = c.before.before.before.before.args.row.now in
-    let i = c.before.before.before.loop-i.i in
+    let row = c.args.row.now in
+    let i = c.loop-i.i in
     let one : c.magnitude.result ≡ nat_abs (get_or row i (pos 0)) =
-    simp (held w32 (get_or row i (pos 0)) c.before.magnitude-arg-1.given) at c.magnitude.ensures in
+    simp (held w32 (get_or row i (pos 0)) c.magnitude-arg-1.given) at c.magnitude.ensures in
     let e : i + 1 ≡ suc i = omega arith in
     (omega arith, rw e (omega (arith, magnitudes-suc row i (omega arith))), omega arith)
 
 returns : tie.Need-returns invariant-loop decreases-loop
 returns c =
-    let row = c.before.before.args.row.now in
-    let i = c.before.loop-i.i in
-    c.before.loop-i.invariant.1 ∙ ap magnitudes (take_all i row (omega arith))
+    let row = c.args.row.now in
+    let i = c.loop-i.i in
+    c.loop-i.invariant.1 ∙ ap magnitudes (take_all i row (omega arith))
 
 pub wide_sum_spec : {M : Type 1} → statement M
 wide_sum_spec =

@@ -1,6 +1,5 @@
 -- `params::judge::check_lengths` meets its contract: it makes the definition's tests in the definition's order.
 use Rattle.std.proofs.Common.{◌≡◌, true, sym, ◌∙◌, lit<, rules, eq-eqb, ne_eqb}
-use borrow.Author.Tests.{not-true, not-false}
 use Rattle.params.specs.Judge.{good_taps, good_length, length_faults}
 use Rattle.params.proofs.Faults.{First, none, keeps, breaks}
 use Rattle.params.proofs.judge.check_lengths.Statement.{statement}
@@ -11,10 +10,10 @@ is-good-taps-requires c κs = search rules
 
 returns : tie.Need-returns-then-not-is_good_taps
 unfolding length_faults
-returns c = let f : First _ _ = breaks (lit< tt) (sym c.before.is_good_taps.ensures ∙ not-true _ c.if-not-is_good_taps.true) in f.is
+returns c = let f : First _ _ = breaks (lit< tt) (sym c.is_good_taps.ensures ∙ c.if-not-is_good_taps.true) in f.is
 
-good : (c : tie.Else-not-is_good_taps) → good_taps c.before.before.args.taps ≡ true
-good c = sym c.before.is_good_taps.ensures ∙ not-false _ c.if-not-is_good_taps.false
+good : (c : tie.Else-not-is_good_taps) → good_taps c.args.taps ≡ true
+good c = sym c.is_good_taps.ensures ∙ c.if-not-is_good_taps.false
 
 mul-long : tie.Need-overflow_mul-long
 mul-long c = search rules
@@ -28,7 +27,7 @@ returns-2 c = let f : First _ _ = keeps _ (good c.before) (breaks (lit< tt) (ne_
 returns-3 : tie.Need-returns-then-g-long
 unfolding length_faults good_length
 returns-3 c =
-    let f : First _ _ = keeps _ (good c.before.before) (keeps _ (eq-eqb _ _ c.before.if-h-long.false) (breaks (lit< tt) (ne_eqb _ _ c.if-g-long.true))) in
+    let f : First _ _ = keeps _ (good c.before.before) (keeps _ (eq-eqb _ _ c.if-h-long.false) (breaks (lit< tt) (ne_eqb _ _ c.if-g-long.true))) in
     f.is
 
 returns-4 : tie.Need-returns-then-k-long
@@ -36,7 +35,7 @@ unfolding length_faults good_length
 returns-4 c =
     let f : First _ _ =
     keeps _ (good c.before.before.before)
-    (keeps _ (eq-eqb _ _ c.before.before.if-h-long.false) (keeps _ (eq-eqb _ _ c.before.if-g-long.false) (breaks (lit< tt) (ne_eqb _ _ c.if-k-long.true)))) in
+    (keeps _ (eq-eqb _ _ c.if-h-long.false) (keeps _ (eq-eqb _ _ c.if-g-long.false) (breaks (lit< tt) (ne_eqb _ _ c.if-k-long.true)))) in
     f.is
 
 returns-5 : tie.Need-returns
@@ -44,7 +43,7 @@ unfolding length_faults good_length
 returns-5 c =
     let f : First _ _ =
     keeps _ (good c.before.before.before)
-    (keeps _ (eq-eqb _ _ c.before.before.if-h-long.false) (keeps _ (eq-eqb _ _ c.before.if-g-long.false) (keeps _ (eq-eqb _ _ c.if-k-long.false) none))) in
+    (keeps _ (eq-eqb _ _ c.if-h-long.false) (keeps _ (eq-eqb _ _ c.if-g-long.false) (keeps _ (eq-eqb _ _ c.if-k-long.false) none))) in
     f.is
 
 pub check_lengths_spec : {M : Type 1} → statement M

@@ -10,7 +10,7 @@ use Rattle.places.proofs.numbers.i32_at.Statement.{statement}
 use Rattle.places.proofs.numbers.i32_at.Tie as tie
 
 abbrev place : tie.After-result-1 → ℤ
-place c = at c.before.args.places.now c.before.args.n
+place c = at c.args.places.now c.args.n
 
 mul-result : tie.Need-offset_bounds-places-n
 mul-result c = search rules
@@ -19,10 +19,10 @@ shared-slice-copy-out-result : tie.Need-bounds-places-n
 shared-slice-copy-out-result c = search rules
 
 cast-result : tie.Need-overflow_cast-result
-cast-result c = simp (held w64 (place c) c.result-1.given) (is-i32 (place c) c.before.requires.is)
+cast-result c = simp (held w64 (place c) c.result-1.given) (is-i32 (place c) c.requires.is)
 
 returns : tie.Need-returns
-returns c = simp (held w64 (place c) c.result-1.given) (simp (to_z-of_z (is-i32 (place c) c.before.requires.is)))
+returns c = simp (held w64 (place c) c.result-1.given) (simp (to_z-of_z (is-i32 (place c) c.requires.is)))
 
 pub i32_at_spec : {M : Type 1} → statement M
 i32_at_spec = tie.close (tie.spec mul-result shared-slice-copy-out-result cast-result returns)

@@ -9,7 +9,7 @@ use Rattle.places.proofs.numbers.u32_at.Statement.{statement}
 use Rattle.places.proofs.numbers.u32_at.Tie as tie
 
 abbrev place : tie.After-result-1 → ℤ
-place c = at c.before.args.places.now c.before.args.n
+place c = at c.args.places.now c.args.n
 
 mul-result : tie.Need-offset_bounds-places-n
 mul-result c = search rules
@@ -18,7 +18,7 @@ shared-slice-copy-out-result : tie.Need-bounds-places-n
 shared-slice-copy-out-result c = search rules
 
 cast-result : tie.Need-overflow_cast-result
-cast-result c = simp (held w64 (place c) c.result-1.given) (is-u32 (place c) c.before.requires.is)
+cast-result c = simp (held w64 (place c) c.result-1.given) (is-u32 (place c) c.requires.is)
 
 returns : tie.Need-returns
 returns c = simp (held w64 (place c) c.result-1.given)

@@ -44,7 +44,7 @@ u8-at-requires-2 c κs = looked c.before.before.before.before.before.before.befo
 returns : tie.Need-returns
 unfolding design_at
 returns c =
-    let a = c.before.before.before.before.before.before.before.before.before.args in
+    let a = c.args in
     λ i.
     record {
       sample_rate = rate_at a.rates.now 0;
@@ -52,8 +52,8 @@ returns c =
       carrier_offset = rate_at a.rates.now 2;
       trim = rate_at a.rates.now 3;
       agc_rms = rate_at a.rates.now 4;
-      taps = c.before.before.u32_at.ensures i;
-      bits = c.before.u8_at.ensures i;
+      taps = c.u32_at.ensures i;
+      bits = c.u8_at.ensures i;
       block_log2 = c.u8_at-2.ensures i;
     }
 

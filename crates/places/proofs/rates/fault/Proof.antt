@@ -12,7 +12,7 @@ use Rattle.places.proofs.rates.fault.Tie as tie
 
 returns : tie.Need-returns-then-rates-ne5
 unfolding design_number
-returns c = rw (ne_eqb (length c.before.before.args.rates.now) 5 c.if-rates-ne5.true) refl
+returns c = rw (ne_eqb (length c.args.rates.now) 5 c.if-rates-ne5.true) refl
 
 design-kinds-requires : tie.Need-design_kinds-types-requires
 design-kinds-requires c κs = search rules
@@ -27,8 +27,8 @@ returns-2 : tie.Need-returns
 unfolding design_number
 returns-2 c =
     let kinds = c.before.before in
-    let a = kinds.before.before.before.args in
-    rw (eq-eqb (length a.rates.now) 5 kinds.before.if-rates-ne5.false)
+    let a = kinds.args in
+    rw (eq-eqb (length a.rates.now) 5 kinds.if-rates-ne5.false)
     (c.fault.ensures ∙ ap (λ (l : List ℕ). places_number l a.fields.now) kinds.design_kinds-types.ensures)
 
 pub fault_spec : {M : Type 1} → statement M

@@ -33,16 +33,16 @@ u8-at-requires-3 c κs = looked c.before.before.before.before 7 (lit< tt)
 returns : tie.Need-returns
 unfolding gains_at
 returns c =
-    let ki = c.before.before.i16_at-2 in
-    let kp = c.before.before.before.before.i16_at in
+    let ki = c.i16_at-2 in
+    let kp = c.i16_at in
     let kp-is = held w16 kp.result kp.type_inv ∙ kp.ensures in
     let ki-is = held w16 ki.result ki.type_inv ∙ ki.ensures in
     λ i.
     record {
       kp = kp-is i;
-      kp_shift = c.before.before.before.u8_at.ensures i;
+      kp_shift = c.u8_at.ensures i;
       ki = ki-is i;
-      ki_shift = c.before.u8_at-2.ensures i;
+      ki_shift = c.u8_at-2.ensures i;
       q_shift = c.u8_at-3.ensures i;
     }
 

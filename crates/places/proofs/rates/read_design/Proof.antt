@@ -14,13 +14,13 @@ fault-requires c κs = search rules
 returns : tie.Need-returns-then-number-ne0
 unfolding read_design
 returns c =
-    let number = c.before.fault in
-    let a = c.before.before.before.args in
+    let number = c.fault-number in
+    let a = c.args in
     rw (ne_eqb (design_number a.rates.now a.fields.now) 0 (λ z. c.if-number-ne0.true (number.ensures ∙ z))) (ap ReadDesign.Refused number.ensures)
 
 -- the design can be read
-none : (c : tie.Else-number-ne0) → let a = c.before.before.before.args in design_number a.rates.now a.fields.now ≡ 0
-none c = sym c.before.fault-number.ensures ∙ c.if-number-ne0.false
+none : (c : tie.Else-number-ne0) → let a = c.args in design_number a.rates.now a.fields.now ≡ 0
+none c = sym c.fault-number.ensures ∙ c.if-number-ne0.false
 
 design-of-requires : tie.Need-design_of-requires
 design-of-requires c κs = none c
@@ -32,7 +32,7 @@ returns-2 : tie.Need-returns
 unfolding read_design
 returns-2 c =
     let made = c.before in
-    let a = made.before.before.before.before.args in
+    let a = made.args in
     rw (eq-eqb (design_number a.rates.now a.fields.now) 0 (none made.before))
     (λ i. ReadDesign.Design (made.design_of.ensures i) (c.gains_of.ensures i))
 

@@ -90,23 +90,23 @@ returns c =
     let step = max.before.before.before in
     λ i.
     record {
-      taps = step.before.u32_at.ensures i;
+      taps = step.u32_at.ensures i;
       nco_step = signed w32 step.i32_at.result step.i32_at.type_inv step.i32_at.ensures i;
-      period_nominal = max.before.before.u32_at-2.ensures i;
-      period_min = max.before.u32_at-3.ensures i;
+      period_nominal = max.u32_at-2.ensures i;
+      period_min = max.u32_at-3.ensures i;
       period_max = max.u32_at-4.ensures i;
-      ted_shift = kp.before.u8_at.ensures i;
+      ted_shift = kp.u8_at.ensures i;
       kp = signed w16 kp.i16_at.result kp.i16_at.type_inv kp.i16_at.ensures i;
-      kp_shift = ki.before.u8_at-2.ensures i;
+      kp_shift = ki.u8_at-2.ensures i;
       ki = signed w16 ki.i16_at-2.result ki.i16_at-2.type_inv ki.i16_at-2.ensures i;
-      ki_shift = end.before.u8_at-3.ensures i;
+      ki_shift = end.u8_at-3.ensures i;
       integrator_max = signed w32 end.i32_at-2.result end.i32_at-2.type_inv end.i32_at-2.ensures i;
-      agc_init = c.before.before.before.before.before.before.u32_at-5.ensures i;
-      agc_target = c.before.before.before.before.before.u32_at-6.ensures i;
-      agc_shift = c.before.before.before.before.u8_at-4.ensures i;
-      bits = c.before.before.before.u8_at-5.ensures i;
-      q_shift = c.before.before.u8_at-6.ensures i;
-      block_log2 = c.before.u8_at-7.ensures i;
+      agc_init = c.u32_at-5.ensures i;
+      agc_target = c.u32_at-6.ensures i;
+      agc_shift = c.u8_at-4.ensures i;
+      bits = c.u8_at-5.ensures i;
+      q_shift = c.u8_at-6.ensures i;
+      block_log2 = c.u8_at-7.ensures i;
       delay = c.u8_at-8.ensures i;
     }
 

@@ -20,15 +20,15 @@ fault-requires : tie.Need-fault-number-requires
 fault-requires c κs = search rules
 
 -- the number is the sheet's
-numbered : (c : tie.After-fault-number) → c.fault-number.result ≡ sheet_number c.before.before.before.args.sheet.now
+numbered : (c : tie.After-fault-number) → c.fault-number.result ≡ sheet_number c.args.sheet.now
 numbered c =
     let types = c.before.before in
-    c.fault-number.ensures ∙ ap (λ (kinds : List ℕ). places_number kinds types.before.args.sheet.now) types.sheet_kinds-types.ensures
+    c.fault-number.ensures ∙ ap (λ (kinds : List ℕ). places_number kinds types.args.sheet.now) types.sheet_kinds-types.ensures
 
 returns : tie.Need-returns-then-number-ne0
 unfolding read_sheet
 returns c =
-    let l = c.before.before.before.before.args.sheet.now in
+    let l = c.args.sheet.now in
     rw (ne_eqb (sheet_number l) 0 (λ z. c.if-number-ne0.true (numbered c.before ∙ z))) (ap ReadSheet.Refused (numbered c.before))
 
 params-of-requires : tie.Need-params_of-requires
@@ -37,8 +37,8 @@ params-of-requires c κs = sym (numbered c.before) ∙ c.if-number-ne0.false
 returns-2 : tie.Need-returns
 unfolding read_sheet
 returns-2 c =
-    let l = c.before.before.before.before.before.args.sheet.now in
-    rw (eq-eqb (sheet_number l) 0 (sym (numbered c.before.before) ∙ c.before.if-number-ne0.false)) (ap ReadSheet.Sheet c.params_of.ensures)
+    let l = c.args.sheet.now in
+    rw (eq-eqb (sheet_number l) 0 (sym (numbered c.before.before) ∙ c.if-number-ne0.false)) (ap ReadSheet.Sheet c.params_of.ensures)
 
 pub read_sheet_spec : {M : Type 1} → statement M
 read_sheet_spec =

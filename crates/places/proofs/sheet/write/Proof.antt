@@ -28,71 +28,71 @@ cast-sheet-2 : tie.Need-overflow_cast-sheet-2
 cast-sheet-2 c = search (widens-32, c.struct_told-1.given) depth 40
 
 slice-set-from-sheet-2 : tie.Need-bounds-sheet-1
-slice-set-from-sheet-2 c = simp length-set (omega (arith, c.before.before.before.requires))
+slice-set-from-sheet-2 c = simp length-set (omega (arith, c.requires))
 
 cast-sheet-3 : tie.Need-overflow_cast-sheet-3
 cast-sheet-3 c = search rules
 
 slice-set-from-sheet-3 : tie.Need-bounds-sheet-2
-slice-set-from-sheet-3 c = simp length-set (omega (arith, c.before.before.before.before.requires))
+slice-set-from-sheet-3 c = simp length-set (omega (arith, c.requires))
 
 cast-sheet-4 : tie.Need-overflow_cast-sheet-4
 cast-sheet-4 c = search rules
 
 slice-set-from-sheet-4 : tie.Need-bounds-sheet-3
-slice-set-from-sheet-4 c = simp length-set (omega (arith, c.before.before.before.before.before.requires))
+slice-set-from-sheet-4 c = simp length-set (omega (arith, c.requires))
 
 cast-sheet-5 : tie.Need-overflow_cast-sheet-5
 cast-sheet-5 c = search rules
 
 slice-set-from-sheet-5 : tie.Need-bounds-sheet-4
-slice-set-from-sheet-5 c = simp length-set (omega (arith, c.before.before.before.before.before.before.requires))
+slice-set-from-sheet-5 c = simp length-set (omega (arith, c.requires))
 
 cast-sheet-6 : tie.Need-overflow_cast-sheet-6
 cast-sheet-6 c = search rules
 
 slice-set-from-sheet-6 : tie.Need-bounds-sheet-5
-slice-set-from-sheet-6 c = simp length-set (omega (arith, c.before.before.before.before.before.before.before.requires))
+slice-set-from-sheet-6 c = simp length-set (omega (arith, c.requires))
 
 cast-sheet-7 : tie.Need-overflow_cast-sheet-7
 cast-sheet-7 c = search (widens-16, c.struct_told-2-1.given) depth 40
 
 slice-set-from-sheet-7 : tie.Need-bounds-sheet-6
-slice-set-from-sheet-7 c = simp length-set (omega (arith, c.before.before.before.before.before.before.before.before.before.requires))
+slice-set-from-sheet-7 c = simp length-set (omega (arith, c.requires))
 
 cast-sheet-8 : tie.Need-overflow_cast-sheet-8
 cast-sheet-8 c = search rules
 
 slice-set-from-sheet-8 : tie.Need-bounds-sheet-7
-slice-set-from-sheet-8 c = simp length-set (omega (arith, c.before.before.before.before.before.before.before.before.before.before.requires))
+slice-set-from-sheet-8 c = simp length-set (omega (arith, c.requires))
 
 cast-sheet-9 : tie.Need-overflow_cast-sheet-9
 cast-sheet-9 c = search (widens-16, c.struct_told-3-1.given) depth 40
 
 slice-set-from-sheet-9 : tie.Need-bounds-sheet-8
 slice-set-from-sheet-9 c = simp length-set
-    (omega (arith, c.before.before.before.before.before.before.before.before.before.before.before.before.requires))
+    (omega (arith, c.requires))
 
 cast-sheet-10 : tie.Need-overflow_cast-sheet-10
 cast-sheet-10 c = places-8 _ c.struct_known-10-1.given.1.1.1.1.1.1.1.1.1.0
 
 slice-set-from-sheet-10 : tie.Need-bounds-sheet-9
 slice-set-from-sheet-10 c = simp length-set
-    (omega (arith, c.before.before.before.before.before.before.before.before.before.before.before.before.before.requires))
+    (omega (arith, c.requires))
 
 cast-sheet-11 : tie.Need-overflow_cast-sheet-11
 cast-sheet-11 c = search (widens-32, c.struct_told-4-1.given) depth 40
 
 slice-set-from-sheet-11 : tie.Need-bounds-sheet-10
 slice-set-from-sheet-11 c = simp length-set
-    (omega (arith, c.before.before.before.before.before.before.before.before.before.before.before.before.before.before.before.requires))
+    (omega (arith, c.requires))
 
 cast-sheet-12 : tie.Need-overflow_cast-sheet-12
 cast-sheet-12 c = places-32 _ c.struct_known-12-1.given.1.1.1.1.1.1.1.1.1.1.1.0
 
 slice-set-from-sheet-12 : tie.Need-bounds-sheet-11
 slice-set-from-sheet-12 c = simp length-set
-    (omega (arith, c.before.before.before.before.before.before.before.before.before.before.before.before.before.before.before.before.requires))
+    (omega (arith, c.requires))
 
 cast-sheet-13 : tie.Need-overflow_cast-sheet-13
 cast-sheet-13 c = places-32 _ c.struct_known-13-1.given.1.1.1.1.1.1.1.1.1.1.1.1.0
@@ -101,7 +101,7 @@ slice-set-from-sheet-13 : tie.Need-bounds-sheet-12
 slice-set-from-sheet-13 c = simp length-set
     (omega (
       arith,
-      c.before.before.before.before.before.before.before.before.before.before.before.before.before.before.before.before.before.requires,
+      c.requires,
     ))
 
 cast-sheet-14 : tie.Need-overflow_cast-sheet-14
@@ -111,7 +111,7 @@ slice-set-from-sheet-14 : tie.Need-bounds-sheet-13
 slice-set-from-sheet-14 c = simp length-set
     (omega (
       arith,
-      c.before.before.before.before.before.before.before.before.before.before.before.before.before.before.before.before.before.before.requires,
+      c.requires,
     ))
 
 cast-sheet-15 : tie.Need-overflow_cast-sheet-15
@@ -121,7 +121,7 @@ slice-set-from-sheet-15 : tie.Need-bounds-sheet-14
 slice-set-from-sheet-15 c = simp length-set
     (omega (
       arith,
-      c.before.before.before.before.before.before.before.before.before.before.before.before.before.before.before.before.before.before.before.requires,
+      c.requires,
     ))
 
 cast-sheet-16 : tie.Need-overflow_cast-sheet-16
@@ -131,7 +131,7 @@ slice-set-from-sheet-16 : tie.Need-bounds-sheet-15
 slice-set-from-sheet-16 c = simp length-set
     (omega (
       arith,
-      c.before.before.before.before.before.before.before.before.before.before.before.before.before.before.before.before.before.before.before.before.requires,
+      c.requires,
     ))
 
 cast-sheet-17 : tie.Need-overflow_cast-sheet-17
@@ -141,7 +141,7 @@ slice-set-from-sheet-17 : tie.Need-bounds-sheet-16
 slice-set-from-sheet-17 c = simp length-set
     (omega (
       arith,
-      c.before.before.before.before.before.before.before.before.before.before.before.before.before.before.before.before.before.before.before.before.before.requires,
+      c.requires,
     ))
 
 cast-sheet-18 : tie.Need-overflow_cast-sheet-18
@@ -151,7 +151,7 @@ slice-set-from-sheet-18 : tie.Need-bounds-sheet-17
 slice-set-from-sheet-18 c = simp length-set
     (omega (
       arith,
-      c.before.before.before.before.before.before.before.before.before.before.before.before.before.before.before.before.before.before.before.before.before.before.requires,
+      c.requires,
     ))
 
 same_length : tie.Need-shape_of-sheet
@@ -226,7 +226,7 @@ returns c =
     let after-step = known.1.1 in
     let after-kp = after-step.1.1.1.1.1 in
     let after-max = after-kp.1.1.1.1 in
-    let told = c.before.before.before.before.before.before.before.struct_told-4-1.given in
+    let told = c.struct_told-4-1.given in
     let from-kp = told.1.1.1.1.1.1 in
     stored s.args.p s.args.sheet.now
     (record {

@@ -8,7 +8,7 @@ use native.Mathlib.Omega.{arith}
 use lib.ListN.{length, take, drop, length-drop}
 use lib.Seq.{take_all, length-take-le}
 use borrow.Author.Rules.{rules}
-use borrow.Author.Tests.{eq-eqb, ne_eqb, not-true, not-false}
+use borrow.Author.Tests.{eq-eqb, ne_eqb}
 use Rattle.kinds.specs.Kinds.{are_kinds}
 use Rattle.kinds.proofs.OfKind.{kinds-append}
 use Rattle.places.specs.Sheet.{sheet_kinds}
@@ -27,15 +27,15 @@ returns-2 : tie.Need-returns-then-line-ne128
 unfolding state_fits
 returns-2 c =
     let l = given c.before.before in
-    rw (eq-eqb (length l.places) 28 c.before.if-places-ne28.false, ne_eqb (length l.line) 128 c.if-line-ne128.true) refl
+    rw (eq-eqb (length l.places) 28 c.if-places-ne28.false, ne_eqb (length l.line) 128 c.if-line-ne128.true) refl
 
 returns-3 : tie.Need-returns-then-errors-ne48
 unfolding state_fits
 returns-3 c =
     let l = given c.before.before.before in
     rw (
-      eq-eqb (length l.places) 28 c.before.before.if-places-ne28.false,
-      eq-eqb (length l.line) 128 c.before.if-line-ne128.false,
+      eq-eqb (length l.places) 28 c.if-places-ne28.false,
+      eq-eqb (length l.line) 128 c.if-line-ne128.false,
       ne_eqb (length l.errors) 48 c.if-errors-ne48.true,
     ) refl
 
@@ -60,8 +60,8 @@ unfolding state_fits
 parts c =
     let l = given (start c) in
     rw (
-      eq-eqb (length l.places) 28 c.before.before.if-places-ne28.false,
-      eq-eqb (length l.line) 128 c.before.if-line-ne128.false,
+      eq-eqb (length l.places) 28 c.if-places-ne28.false,
+      eq-eqb (length l.line) 128 c.if-line-ne128.false,
       eq-eqb (length l.errors) 48 c.if-errors-ne48.false,
     ) (kinds-append first_kinds sheet_kinds l.places)
 
@@ -72,7 +72,7 @@ long c = c.before.before.before.before
 first : (c : tie.After-are_kinds) → are_kinds first_kinds (take 10 (given (start (long c))).places) ≡ c.are_kinds.result
 first c =
     sym (c.are_kinds.ensures
-    ∙ ap (λ (kinds : List ℕ). are_kinds kinds (take 10 (given (start (long c))).places)) c.before.before.before.first_kinds-types.ensures)
+    ∙ ap (λ (kinds : List ℕ). are_kinds kinds (take 10 (given (start (long c))).places)) c.first-kinds.ensures)
 
 -- so those behind them are left to decide, or nothing is
 behind : (c : tie.After-are_kinds) {b : Bool} → c.are_kinds.result ≡ b
@@ -80,7 +80,7 @@ behind : (c : tie.After-are_kinds) {b : Bool} → c.are_kinds.result ≡ b
 behind c e = parts (long c) ∙ ap (λ (b : Bool). b && are_kinds sheet_kinds (drop 10 (given (start (long c))).places)) (first c ∙ e)
 
 returns-4 : tie.Need-returns-then-not-are_kinds
-returns-4 c = let t = c.before in sym (behind t (not-true t.are_kinds.result c.if-not-are_kinds.true))
+returns-4 c = let t = c.before in sym (behind t c.if-not-are_kinds.true)
 
 sheet-kinds-requires : tie.Need-sheet_kinds-fields-requires
 sheet-kinds-requires c κs = search rules
@@ -107,7 +107,7 @@ returns-5 c =
     let l = (given (start (long t))).places in
     let all = take_all (length l - 10) (drop 10 l) (omega (arith, length-drop 10 l)) in
     c.are_kinds-2.ensures ∙ (λ i. are_kinds (sheet.sheet_kinds-fields.ensures i) (all i))
-    ∙ sym (behind t (not-false t.are_kinds.result sheet.before.if-not-are_kinds.false))
+    ∙ sym (behind t sheet.if-not-are_kinds.false)
 
 pub is_state_spec : {M : Type 1} → statement M
 is_state_spec =

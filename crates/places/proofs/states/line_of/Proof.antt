@@ -60,13 +60,13 @@ loop-less c = search rules
 
 loop-again : tie.Need-loop-n-preserved invariant-loop decreases-loop
 loop-again c =
-    let l = c.before.before.before.loop-n in
-    let numbers = c.before.before.before.before.args.numbers.now in
-    simp (held w32 (get_or numbers (2 * l.n) (pos 0)) c.before.line-1.given, held w32 (get_or numbers (2 * l.n + 1) (pos 0)) c.line-in-loop-n-1.given)
+    let l = c.loop-n in
+    let numbers = c.args.numbers.now in
+    simp (held w32 (get_or numbers (2 * l.n) (pos 0)) c.line-1.given, held w32 (get_or numbers (2 * l.n + 1) (pos 0)) c.line-in-loop-n-1.given)
     (taken_next l.invariant (omega arith))
 
 returns : tie.Need-returns invariant-loop decreases-loop
-returns c = taken-all c.before.loop-n.invariant (omega arith) c.before.before.requires
+returns c = taken-all c.loop-n.invariant (omega arith) c.requires
 
 pub line_of_spec : {M : Type 1} → statement M
 line_of_spec =

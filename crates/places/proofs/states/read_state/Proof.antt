@@ -8,7 +8,6 @@ use lib.Dec.{lit<}
 use lib.ListN.{length, get_or, take, drop, length-drop}
 use lib.Seq.{take_all}
 use borrow.Author.Rules.{rules}
-use borrow.Author.Tests.{not-true, not-false}
 use Rattle.state.specs.Start.{fresh}
 use Rattle.kinds.specs.Kinds.{KindAt}
 use Rattle.places.specs.Sheet.{sheet_number, params_at}
@@ -34,19 +33,19 @@ unfolding read_state
 returns c =
     let tested = c.before.before.before in
     let unfit : state_fits (given tested.before) ≡ false =
-    sym tested.is_state.ensures ∙ not-true tested.is_state.result c.before.before.if-not-is_state.true in
-    rw unfit (c.fresh.ensures ∙ ap fresh c.before.none.ensures)
+    sym tested.is_state.ensures ∙ c.if-not-is_state.true in
+    rw unfit (c.fresh.ensures ∙ ap fresh c.none.ensures)
 
 -- ---- slices that are a state
 
 fitting : (c : tie.Else-not-is_state) → state_fits (given c.before.before) ≡ true
-fitting c = sym c.before.is_state.ensures ∙ not-false c.before.is_state.result c.if-not-is_state.false
+fitting c = sym c.is_state.ensures ∙ c.if-not-is_state.false
 
 readable : (c : tie.Else-not-is_state) → ReadableState (given c.before.before)
 readable c = readable-state (given c.before.before) (fitting c)
 
 -- each of the first places was looked at
-looked : (c : tie.Else-not-is_state) (n : ℕ) → n < 10 → KindAt (get_or first_kinds n 0) c.before.before.args.places.now n
+looked : (c : tie.Else-not-is_state) (n : ℕ) → n < 10 → KindAt (get_or first_kinds n 0) c.args.places.now n
 looked c n h = first-at _ (first_fits (readable c)) n h
 
 sub-params-of : tie.Need-slice_bounds-params_of-count
@@ -59,8 +58,8 @@ part-params-of-end : tie.Need-slice_bounds-params_of-end
 part-params-of-end c = search rules
 
 -- the places behind the first ten, as they are lent
-behind : (c : tie.Else-not-is_state) → let l = c.before.before.args.places.now in take (length l - 10) (drop 10 l) ≡ drop 10 l
-behind c = let l = c.before.before.args.places.now in take_all (length l - 10) (drop 10 l) (omega (arith, length-drop 10 l))
+behind : (c : tie.Else-not-is_state) → let l = c.args.places.now in take (length l - 10) (drop 10 l) ≡ drop 10 l
+behind c = let l = c.args.places.now in take_all (length l - 10) (drop 10 l) (omega (arith, length-drop 10 l))
 
 params-of-requires : tie.Need-params_of-requires
 params-of-requires c κs = let e = c.before in ap sheet_number (behind e) ∙ sheet-fits (readable e)
@@ -100,10 +99,10 @@ returns-2 c =
       params = (params.params_of.ensures ∙ ap params_at (behind e)) i;
       registers = registers.registers_of.ensures i;
       line = line.Line-of.ensures i;
-      head = pending.before.count_at.ensures i;
+      head = pending.count_at.ensures i;
       pending = pending.pending_of.ensures i;
-      oldest = c.before.before.count_at-2.ensures i;
-      waiting = c.before.count_at-3.ensures i;
+      oldest = c.count_at-2.ensures i;
+      waiting = c.count_at-3.ensures i;
       samples = c.count_at-4.ensures i;
     })
 

@@ -12,30 +12,30 @@ u32-at-requires : tie.Need-u32_at-requires
 u32-at-requires c κs = first-at c.args.places.now c.requires 0 (lit< tt)
 
 i64-at-requires : tie.Need-i64_at-requires
-i64-at-requires c κs = first-at c.before.args.places.now c.before.requires 1 (lit< tt)
+i64-at-requires c κs = first-at c.args.places.now c.requires 1 (lit< tt)
 
 i64-at-requires-2 : tie.Need-i64_at-requires-2
-i64-at-requires-2 c κs = first-at c.before.before.args.places.now c.before.before.requires 2 (lit< tt)
+i64-at-requires-2 c κs = first-at c.args.places.now c.requires 2 (lit< tt)
 
 u32-at-requires-2 : tie.Need-u32_at-requires-2
-u32-at-requires-2 c κs = first-at c.before.before.before.args.places.now c.before.before.before.requires 3 (lit< tt)
+u32-at-requires-2 c κs = first-at c.args.places.now c.requires 3 (lit< tt)
 
 u32-at-requires-3 : tie.Need-u32_at-requires-3
-u32-at-requires-3 c κs = first-at c.before.before.before.before.args.places.now c.before.before.before.before.requires 4 (lit< tt)
+u32-at-requires-3 c κs = first-at c.args.places.now c.requires 4 (lit< tt)
 
 count-at-requires : tie.Need-count_at-requires
-count-at-requires c κs = first-at c.before.before.before.before.before.args.places.now c.before.before.before.before.before.requires 5 (lit< tt)
+count-at-requires c κs = first-at c.args.places.now c.requires 5 (lit< tt)
 
 returns : tie.Need-returns
 unfolding registers_at
 returns c = λ i.
     record {
-      nco = c.before.before.before.before.before.u32_at.ensures i;
-      t_acc = (held w64 c.before.before.before.before.i64_at.result c.before.before.before.before.i64_at.type_inv
-          ∙ c.before.before.before.before.i64_at.ensures) i;
-      v = (held w64 c.before.before.before.i64_at-2.result c.before.before.before.i64_at-2.type_inv ∙ c.before.before.before.i64_at-2.ensures) i;
-      period = c.before.before.u32_at-2.ensures i;
-      gain_acc = c.before.u32_at-3.ensures i;
+      nco = c.u32_at.ensures i;
+      t_acc = (held w64 c.i64_at.result c.i64_at.type_inv
+          ∙ c.i64_at.ensures) i;
+      v = (held w64 c.i64_at-2.result c.i64_at-2.type_inv ∙ c.i64_at-2.ensures) i;
+      period = c.u32_at-2.ensures i;
+      gain_acc = c.u32_at-3.ensures i;
       symbols = c.count_at.ensures i;
     }
 

@@ -44,37 +44,37 @@ cast-places-3 : tie.Need-overflow_cast-places-3
 cast-places-3 c = search rules
 
 slice-set-from-places-3 : tie.Need-bounds-places-4
-slice-set-from-places-3 c = simp length-set (omega (arith, c.before.before.before.before.before.before.requires.0))
+slice-set-from-places-3 c = simp length-set (omega (arith, c.requires.0))
 
 cast-places-4 : tie.Need-overflow_cast-places-4
 cast-places-4 c = let p = small c.before.before.before.before.before.before.before in sfit (omega arith)
 
 slice-set-from-places-4 : tie.Need-bounds-places-5
-slice-set-from-places-4 c = simp length-set (omega (arith, c.before.before.before.before.before.before.before.requires.0))
+slice-set-from-places-4 c = simp length-set (omega (arith, c.requires.0))
 
 cast-places-5 : tie.Need-overflow_cast-places-5
 cast-places-5 c = let p = small c.before.before.before.before.before.before.before.before in sfit (omega arith)
 
 slice-set-from-places-5 : tie.Need-bounds-places-6
-slice-set-from-places-5 c = simp length-set (omega (arith, c.before.before.before.before.before.before.before.before.requires.0))
+slice-set-from-places-5 c = simp length-set (omega (arith, c.requires.0))
 
 cast-places-6 : tie.Need-overflow_cast-places-6
 cast-places-6 c = let p = small c.before.before.before.before.before.before.before.before.before in sfit (omega arith)
 
 slice-set-from-places-6 : tie.Need-bounds-places-7
-slice-set-from-places-6 c = simp length-set (omega (arith, c.before.before.before.before.before.before.before.before.before.requires.0))
+slice-set-from-places-6 c = simp length-set (omega (arith, c.requires.0))
 
 cast-places-7 : tie.Need-overflow_cast-places-7
 cast-places-7 c = let p = small c.before.before.before.before.before.before.before.before.before.before in sfit (omega arith)
 
 slice-set-from-places-7 : tie.Need-bounds-places-8
-slice-set-from-places-7 c = simp length-set (omega (arith, c.before.before.before.before.before.before.before.before.before.before.requires.0))
+slice-set-from-places-7 c = simp length-set (omega (arith, c.requires.0))
 
 cast-places-8 : tie.Need-overflow_cast-places-8
 cast-places-8 c = let p = small c.before.before.before.before.before.before.before.before.before.before.before in sfit (omega arith)
 
 slice-set-from-places-8 : tie.Need-bounds-places-9
-slice-set-from-places-8 c = simp length-set (omega (arith, c.before.before.before.before.before.before.before.before.before.before.before.requires.0))
+slice-set-from-places-8 c = simp length-set (omega (arith, c.requires.0))
 
 same_length : tie.Need-shape_of-places
 same_length c = simp length-set
@@ -105,7 +105,7 @@ returns : tie.Need-returns
 returns c =
     let k = c.before.before.before.before.before.before.before in
     let s = k.before.before.before.before in
-    let told = k.before.struct_told-2-1.given in
+    let told = k.struct_told-2-1.given in
     let known = c.struct_known-8-1.given in
     stored s.args.f s.args.places.now (search told depth 40) (search told depth 40) (search known depth 40) (search known depth 40)
     (search known depth 40)

@@ -57,15 +57,15 @@ loop-less c = search rules
 loop-again : tie.Need-loop-n-preserved invariant-loop decreases-loop
 loop-again c =
     let s = c.before.before.before.before.before in
-    let l = c.before.before.before.before.loop-n in
+    let l = c.loop-n in
     let x = get_or s.args.t1 l.n no_pair in
     simp (held w32 x.i (search rules), held w32 x.q (search rules)) (put_next no_pair l.invariant (omega arith) (search rules) s.requires)
 
 same_length : tie.Need-shape_of-numbers invariant-loop decreases-loop
-same_length c = c.before.loop-n.invariant.long
+same_length c = c.loop-n.invariant.long
 
 returns : tie.Need-returns invariant-loop decreases-loop
-returns c = put_all c.before.loop-n.invariant (omega arith) (search rules) c.before.before.requires
+returns c = put_all c.loop-n.invariant (omega arith) (search rules) c.requires
 
 pub write_line_spec : {M : Type 1} → statement M
 write_line_spec =

@@ -9,7 +9,7 @@ use lib.ListN.{length, take, drop, length-take, length-drop, drop_of_length-le}
 use lib.Seq.{take_at}
 use lib.IntN.{ℤ}
 use borrow.Author.Rules.{rules}
-use borrow.Author.Tests.{eq-eqb, ne_eqb, not-true, not-false}
+use borrow.Author.Tests.{eq-eqb, ne_eqb}
 use borrow.Rule.Slice.PartMut.{mid_of, post_of, put_mid}
 use Rattle.state.specs.declared.Frontend.{Frontend}
 use Rattle.places.specs.Sheet.{sheet_numbers}
@@ -30,13 +30,13 @@ stays f l e = rw e refl
 returns : tie.Need-returns-then-places-ne28
 returns c =
     let l = given c.before in
-    stays c.before.args.f l (rw (ne_eqb (length l.places) 28 c.if-places-ne28.true) refl)
+    stays c.args.f l (rw (ne_eqb (length l.places) 28 c.if-places-ne28.true) refl)
 
 returns-2 : tie.Need-returns-then-line-ne128
 returns-2 c =
     let s = c.before.before in
     let l = given s in
-    stays s.args.f l (rw (eq-eqb (length l.places) 28 c.before.if-places-ne28.false, ne_eqb (length l.line) 128 c.if-line-ne128.true) refl)
+    stays s.args.f l (rw (eq-eqb (length l.places) 28 c.if-places-ne28.false, ne_eqb (length l.line) 128 c.if-line-ne128.true) refl)
 
 returns-3 : tie.Need-returns-then-errors-ne48
 returns-3 c =
@@ -44,8 +44,8 @@ returns-3 c =
     let l = given s in
     stays s.args.f l
     (rw (
-      eq-eqb (length l.places) 28 c.before.before.if-places-ne28.false,
-      eq-eqb (length l.line) 128 c.before.if-line-ne128.false,
+      eq-eqb (length l.places) 28 c.if-places-ne28.false,
+      eq-eqb (length l.line) 128 c.if-line-ne128.false,
       ne_eqb (length l.errors) 48 c.if-errors-ne48.true,
     ) refl)
 
@@ -60,8 +60,8 @@ long : (c : tie.Else-errors-ne48) → are_long (given (start c)) ≡ true
 long c =
     let l = given (start c) in
     rw (
-      eq-eqb (length l.places) 28 c.before.before.if-places-ne28.false,
-      eq-eqb (length l.line) 128 c.before.if-line-ne128.false,
+      eq-eqb (length l.places) 28 c.if-places-ne28.false,
+      eq-eqb (length l.line) 128 c.if-line-ne128.false,
       eq-eqb (length l.errors) 48 c.if-errors-ne48.false,
     ) refl
 
@@ -69,14 +69,14 @@ returns-4 : tie.Need-returns-then-not-are_counts
 returns-4 c =
     let tested = c.before in
     let e = tested.before.before in
-    let large : has_places (start e).args.f ≡ false = sym tested.are_counts.ensures ∙ not-true tested.are_counts.result c.if-not-are_counts.true in
+    let large : has_places (start e).args.f ≡ false = sym tested.are_counts.ensures ∙ c.if-not-are_counts.true in
     stays (start e).args.f (given (start e)) (rw (long e, large) refl)
 
 -- ---- what is written
 
 -- every count has its place
 small : (c : tie.Else-not-are_counts) → has_places (start c.before.before.before).args.f ≡ true
-small c = sym c.before.are_counts.ensures ∙ not-false c.before.are_counts.result c.if-not-are_counts.false
+small c = sym c.are_counts.ensures ∙ c.if-not-are_counts.false
 
 -- the held sheet behind the first ten: there are 28 places, so nothing stands behind it
 parts : (f : Frontend) (l₀ l₁ ys : List ℤ) → length l₁ ≡ 28 → l₁ ≡ first_numbers f ++ drop 10 l₀
@@ -91,7 +91,7 @@ parts f l₀ l₁ ys long a b =
     ∙ ap (λ (x : List ℤ). sheet_numbers f.params ++ x) mid ∙ append-nil (sheet_numbers f.params))
 
 write-first-requires : tie.Need-write_first-requires
-write-first-requires c κs = let e = c.before.before.before.before in (omega (arith, e.before.before.before.before.before.if-places-ne28.false), small e)
+write-first-requires c κs = let e = c.before.before.before.before in (omega (arith, e.if-places-ne28.false), small e)
 
 sub-write : tie.Need-slice_bounds-write-count
 sub-write c = search rules
@@ -136,7 +136,7 @@ returns-5 c =
     let s = start e.before.before.before in
     let a = s.args in
     let places = parts a.f a.places.now first.write_first.new.places sheet.write.new.sheet
-    (first.write_first.auto.places ∙ e.before.before.before.before.before.if-places-ne28.false) first.write_first.ensures sheet.write.ensures in
+    (first.write_first.auto.places ∙ e.if-places-ne28.false) first.write_first.ensures sheet.write.ensures in
     writes a.f (given s) (rw (long e.before.before.before, small e) refl)
     (λ i. slices (places i) (line.write_line.ensures i) (errors.write_pending.ensures i))
 

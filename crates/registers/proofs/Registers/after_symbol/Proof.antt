@@ -10,7 +10,7 @@ use lib.Signed.{le_z, lt_z}
 use mir.Syntax.{w32}
 use mir.Val.{SFits}
 use borrow.Author.Rules.{rules}
-use borrow.Author.Tests.{not-true, not-false, ltb-true}
+use borrow.Author.Tests.{ltb-true}
 use Rattle.arith.proofs.Order.{lt-pn, le-pn}
 use Rattle.params.specs.declared.Params.{Params}
 use Rattle.arith.specs.Arith.{within}
@@ -71,14 +71,14 @@ can-make-symbol-requires c κs = search rules
 
 returns : tie.Need-returns-then-not-can_make_symbol
 unfolding after_symbol
-returns c = rw (sym c.before.can_make_symbol.ensures ∙ not-true c.before.can_make_symbol.result c.if-not-can_make_symbol.true) refl
+returns c = rw (sym c.can_make_symbol.ensures ∙ c.if-not-can_make_symbol.true) refl
 
 -- where a symbol can be made
-can-make : (c : tie.Else-not-can_make_symbol) → let a = c.before.before.args in can_make_symbol a.p a.self ≡ true
-can-make c = sym c.before.can_make_symbol.ensures ∙ not-false c.before.can_make_symbol.result c.if-not-can_make_symbol.false
+can-make : (c : tie.Else-not-can_make_symbol) → let a = c.args in can_make_symbol a.p a.self ≡ true
+can-make c = sym c.can_make_symbol.ensures ∙ c.if-not-can_make_symbol.false
 
-told : (c : tie.Else-not-can_make_symbol) → let a = c.before.before.args in CanMake a.p a.self
-told c = let a = c.before.before.args in tells a.p a.self (can-make c)
+told : (c : tie.Else-not-can_make_symbol) → let a = c.args in CanMake a.p a.self
+told c = let a = c.args in tells a.p a.self (can-make c)
 
 most : (s : tie.Start) → SFits w32 s.args.p.integrator_max
 most s = record { sfits = search s.well-formed.1.0 depth 40 }
@@ -88,7 +88,7 @@ found-requires c κs = omega (arith, (told c).within, end-abs (most c.before.bef
 
 left-requires : tie.Need-left-requires
 left-requires c κs =
-    let a = c.before.before.before.args in
+    let a = c.args in
     let t = ap (λ (x : Registers). x.t_acc) c.found-d.ensures ∙ found-time a.p a.self a.due a.w in
     let n = ap (λ (x : Registers). x.symbols) c.found-d.ensures ∙ found-count a.p a.self a.due a.w in
     (rw t (omega (arith, (told c.before).soon)), rw n (told c.before).room)

@@ -19,7 +19,7 @@ use Rattle.registers.proofs.Registers.can_make_symbol.Tie as tie
 
 -- ---- the integrator's ends
 
-most : (c : tie.After-struct_told-1) → SFits w32 c.before.before.args.p.integrator_max
+most : (c : tie.After-struct_told-1) → SFits w32 c.args.p.integrator_max
 most c = record { sfits = search c.struct_told-1.given depth 40 }
 
 cast-end : tie.Need-overflow_cast-end
@@ -48,7 +48,7 @@ start c = c.before.before.before.before.before
 passed2 : (c : tie.Joined-self-ge0) → c.if-self-ge0.if2 ≡ first2 (start c)
 passed2 c =
     let z = (start c).args.self.t_acc in
-    and-next {so_far = le_z (pos 0) (in64 z)} (ap (le_z (pos 0)) (held w64 z c.before.struct_told-2-1.given.1.0.1)) c.if-self-ge0.branch
+    and-next {so_far = le_z (pos 0) (in64 z)} (ap (le_z (pos 0)) (held w64 z c.struct_told-2-1.given.1.0.1)) c.if-self-ge0.branch
     (λ t. (t.0.taken, t.3 ∙ ap (λ (x : ℤ). lt_z x one) (held w64 z t.2.given.1.0.1))) (λ n. (n.0.left, n.1))
 
 passed4 : (c : tie.Joined-end-self) → c.if-end-self.if4 ≡ first4 (start c.before.before)
@@ -58,7 +58,7 @@ passed4 c =
     let m = most c.before.before.before.before.before in
     let high = integrator_end s.args.p in
     and-next
-    (and-next (passed2 c.before.before) c.before.if-self-lt16777216.branch (λ t. (t.0.taken, t.3 ∙ low-test m v t.2.given.1.1.0.1))
+    (and-next (passed2 c.before.before) c.if-self-lt16777216.branch (λ t. (t.0.taken, t.3 ∙ low-test m v t.2.given.1.1.0.1))
     (λ n. (n.0.left, n.1)))
     c.if-end-self.branch (λ t. (t.0.taken, t.3 ∙ high-test m v t.2.given.1.1.0.1)) (λ n. (n.0.left, n.1))
     ∙ and_assoc (first2 s) (le_z (neg_ℤ high) v) (le_z v high)
@@ -72,7 +72,7 @@ unfolding can_make_symbol
 but_last c b e = with-next (ltb (start c.before.before).args.self.symbols 18446744073709551615) (sym e ∙ passed4 c)
 
 returns : tie.Need-returns-then-self-end
-returns c = but_last c.before.before true c.before.if-self-end.true
+returns c = but_last c.before.before true c.if-self-end.true
 
 returns-2 : tie.Need-returns-else-self-end
 returns-2 c = c.if-self-end.false ∙ but_last c.before false c.if-self-end.false

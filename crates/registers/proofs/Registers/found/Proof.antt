@@ -14,10 +14,10 @@ correct-requires c κs = search rules
 returns : tie.Need-returns-then-due
 unfolding found
 returns c =
-    let w = c.before.before.before.before.args.w in
-    let e = held w32 w.e (search c.before.before.struct_told-1.given depth 40) in
-    let err = held w32 w.err (search c.before.struct_told-then-due-1.given depth 40) in
-    rw c.before.before.before.if-due.true (simp (e, err) at c.correct.ensures)
+    let w = c.args.w in
+    let e = held w32 w.e (search c.struct_told-1.given depth 40) in
+    let err = held w32 w.err (search c.struct_told-then-due-1.given depth 40) in
+    rw c.if-due.true (simp (e, err) at c.correct.ensures)
 
 returns-2 : tie.Need-returns
 unfolding found

@@ -42,11 +42,11 @@ cast-t2 c = search rules
 
 add-t3 : tie.Need-overflow_add-result
 add-t3 c = let s = c.before.before.before in sum_fits s.args.self.t_acc s.args.self.period s.requires.0
-    c.before.struct_known-2-1.given.1.1.1.0
+    c.struct_known-2-1.given.1.1.1.0
 
 sub-t4 : tie.Need-overflow_sub-result
 sub-t4 c = let s = c.before.before.before in rest-fits s.args.self.t_acc s.args.self.period s.requires.0
-    c.before.struct_known-2-1.given.1.1.1.0
+    c.struct_known-2-1.given.1.1.1.0
 
 add-t5 : tie.Need-overflow_add-result-2
 add-t5 c = search rules
@@ -58,7 +58,7 @@ returns c =
     let s = d.before.before.before in
     let r = s.args.self in
     let time : in64 (in64 (in64 r.t_acc +ℤ to_z w64 r.period) -ℤ one) ≡ r.t_acc +ℤ pos r.period -ℤ one =
-    next-is r.t_acc r.period s.requires.0 d.before.struct_known-2-1.given.1.1.1.0 in
+    next-is r.t_acc r.period s.requires.0 d.struct_known-2-1.given.1.1.1.0 in
     let v : in64 r.v ≡ r.v = held w64 r.v (search c.struct_told-2-1.given depth 40) in
     λ i. record { nco = r.nco; t_acc = time i; v = v i; period = r.period; gain_acc = r.gain_acc; symbols = r.symbols + 1 }
 

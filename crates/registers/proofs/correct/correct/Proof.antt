@@ -30,11 +30,11 @@ next-v-requires : tie.Need-next_v-v-requires
 next-v-requires c κs = search rules
 
 -- what `next_v` answers
-moved : (c : tie.After-next_v-v) → let a = c.before.before.args in in64 c.next_v-v.result ≡ next_v a.p a.r.v a.e
+moved : (c : tie.After-next_v-v) → let a = c.args in in64 c.next_v-v.result ≡ next_v a.p a.r.v a.e
 moved c =
     let s = c.before.before in
     let told : c.next_v-v.result ≡ _ =
-    simp (held w64 s.args.r.v (search c.before.struct_told-1.given depth 40), to_z-of_z s.ranges.e) at c.next_v-v.ensures in
+    simp (held w64 s.args.r.v (search c.struct_told-1.given depth 40), to_z-of_z s.ranges.e) at c.next_v-v.ensures in
     held w64 c.next_v-v.result c.next_v-v.type_inv ∙ told
 
 next-period-requires : tie.Need-next_period-requires

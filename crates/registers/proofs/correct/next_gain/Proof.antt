@@ -29,10 +29,10 @@ shift-right-requires : tie.Need-shift_right-requires
 shift-right-requires c κs = search rules
 
 -- what `shift_right` answers
-shifted : (c : tie.After-shift_right) → let a = c.before.before.args in c.shift_right.result ≡ shr_z a.err (2 ^ a.p.agc_shift)
-shifted c = simp (widened w64 tt c.before.before.ranges.err) at c.shift_right.ensures
+shifted : (c : tie.After-shift_right) → let a = c.args in c.shift_right.result ≡ shr_z a.err (2 ^ a.p.agc_shift)
+shifted c = simp (widened w64 tt c.ranges.err) at c.shift_right.ensures
 
-sum-abs : (c : tie.After-shift_right) → nat_abs (pos c.before.before.args.acc +ℤ c.shift_right.result) < 2 ^ 63
+sum-abs : (c : tie.After-shift_right) → nat_abs (pos c.args.acc +ℤ c.shift_right.result) < 2 ^ 63
 sum-abs c =
     let s = c.before.before in
     let by = 2 ^ s.args.p.agc_shift in
@@ -49,13 +49,13 @@ clamp-requires c κs = search rules
 
 -- what `clamp` answers
 clamped : (c : tie.After-clamp)
-    → let a = c.before.before.before.args in
+    → let a = c.args in
     in64 c.clamp.result ≡ clamp_z (pos a.acc +ℤ shr_z a.err (2 ^ a.p.agc_shift)) (pos 0) (pos 16777215)
 clamped c =
     let a = c.before in
     let s = a.before.before in
-    let sum = simp (whole s.args.acc s.ranges.acc, held w64 a.shift-right.result a.shift-right.type_inv) at c.clamp.ensures in
-    let told : c.clamp.result ≡ _ = simp (back w64 (pos s.args.acc +ℤ a.shift-right.result) (sum-abs a)) at sum in
+    let sum = simp (whole s.args.acc s.ranges.acc, held w64 a.shift_right.result a.shift_right.type_inv) at c.clamp.ensures in
+    let told : c.clamp.result ≡ _ = simp (back w64 (pos s.args.acc +ℤ a.shift_right.result) (sum-abs a)) at sum in
     simp (held w64 c.clamp.result c.clamp.type_inv) (simp (shifted a) at told)
 
 cast-result : tie.Need-overflow_cast-result

@@ -23,13 +23,13 @@ use Rattle.registers.proofs.correct.next_period.Tie as tie
 abbrev base : tie.Start → ℤ
 base s = pos s.args.p.period_nominal +ℤ shr_z s.args.v 65536
 
-nominal-fits : (c : tie.After-struct_known-1) → Fits w32 c.before.args.p.period_nominal
+nominal-fits : (c : tie.After-struct_known-1) → Fits w32 c.args.p.period_nominal
 nominal-fits c = c.struct_known-1.given.1.1.0
 
 base-abs : (c : tie.After-struct_known-1) → nat_abs (base c.before) < 2 ^ 62
 base-abs c =
-    let a = c.before.args in
-    omega (arith, c.before.requires, nominal-fits c, abs-add (pos a.p.period_nominal) (shr_z a.v 65536), abs-shr a.v 65536)
+    let a = c.args in
+    omega (arith, c.requires, nominal-fits c, abs-add (pos a.p.period_nominal) (shr_z a.v 65536), abs-shr a.v 65536)
 
 cast-base : tie.Need-overflow_cast-base
 cast-base c = search rules
@@ -42,7 +42,7 @@ add-base c =
 
 -- what the code holds of it
 base-is : (c : tie.After-struct_known-1)
-    → let a = c.before.args in in64 (to_z w64 a.p.period_nominal +ℤ in64 (shr_z (in64 a.v) 65536)) ≡ base c.before
+    → let a = c.args in in64 (to_z w64 a.p.period_nominal +ℤ in64 (shr_z (in64 a.v) 65536)) ≡ base c.before
 base-is c =
     let s = c.before in
     simp (whole s.args.p.period_nominal (nominal-fits c), to_z-of_z s.ranges.v, to_z-of_z (shr-fits 65536 s.ranges.v))
@@ -53,12 +53,12 @@ base-is c =
 scaled-requires : tie.Need-scaled-requires
 scaled-requires c κs = search rules
 
-kp-fits : (c : tie.After-struct_told-1) → SFits w16 c.before.before.args.p.kp
+kp-fits : (c : tie.After-struct_told-1) → SFits w16 c.args.p.kp
 kp-fits c = record { sfits = search c.struct_told-1.given depth 40 }
 
 -- what `scaled` answers
-scaled-is : (c : tie.After-scaled) → let a = c.before.before.before.args in c.scaled.result ≡ round_shift (a.p.kp *ℤ a.e) a.p.kp_shift
-scaled-is c = simp (to_z-of_z (kp-fits c.before), to_z-of_z c.before.before.before.ranges.e) at c.scaled.ensures
+scaled-is : (c : tie.After-scaled) → let a = c.args in c.scaled.result ≡ round_shift (a.p.kp *ℤ a.e) a.p.kp_shift
+scaled-is c = simp (to_z-of_z (kp-fits c.before), to_z-of_z c.ranges.e) at c.scaled.ensures
 
 sum-abs : (c : tie.After-scaled) → nat_abs (base c.before.before.before +ℤ c.scaled.result) < 2 ^ 63
 sum-abs c =
@@ -81,10 +81,10 @@ cast-clamp-2 c = search rules
 clamp-requires : tie.Need-clamp-requires
 clamp-requires c κs = search rules
 
-min-fits : (c : tie.After-struct_known-3-1) → Fits w32 c.before.before.before.before.before.args.p.period_min
+min-fits : (c : tie.After-struct_known-3-1) → Fits w32 c.args.p.period_min
 min-fits c = c.struct_known-3-1.given.1.1.1.0
 
-max-fits : (c : tie.After-struct_known-3-1) → Fits w32 c.before.before.before.before.before.args.p.period_max
+max-fits : (c : tie.After-struct_known-3-1) → Fits w32 c.args.p.period_max
 max-fits c = c.struct_known-3-1.given.1.1.1.1.0
 
 -- what `clamp` answers

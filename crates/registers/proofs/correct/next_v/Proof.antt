@@ -18,7 +18,7 @@ use Rattle.registers.proofs.correct.next_v.Tie as tie
 
 -- ---- the ends
 
-max-fits : (c : tie.After-struct_told-1) → SFits w32 c.before.before.args.p.integrator_max
+max-fits : (c : tie.After-struct_told-1) → SFits w32 c.args.p.integrator_max
 max-fits c = record { sfits = search c.struct_told-1.given depth 40 }
 
 cast-end : tie.Need-overflow_cast-end
@@ -32,15 +32,15 @@ mul-end c = simp (widened w64 tt (max-fits c)) (end_fits (max-fits c))
 scaled-requires : tie.Need-scaled-requires
 scaled-requires c κs = search rules
 
-ki-fits : (c : tie.After-struct_told-2-1) → SFits w16 c.before.before.before.args.p.ki
+ki-fits : (c : tie.After-struct_told-2-1) → SFits w16 c.args.p.ki
 ki-fits c = record { sfits = search c.struct_told-2-1.given depth 40 }
 
 -- what `scaled` answers
 scaled-is : (c : tie.After-scaled)
-    → let a = c.before.before.before.before.args in c.scaled.result ≡ round_shift (a.p.ki *ℤ a.e) a.p.ki_shift
-scaled-is c = simp (to_z-of_z (ki-fits c.before), to_z-of_z c.before.before.before.before.ranges.e) at c.scaled.ensures
+    → let a = c.args in c.scaled.result ≡ round_shift (a.p.ki *ℤ a.e) a.p.ki_shift
+scaled-is c = simp (to_z-of_z (ki-fits c.before), to_z-of_z c.ranges.e) at c.scaled.ensures
 
-sum-abs : (c : tie.After-scaled) → nat_abs (c.before.before.before.before.args.v +ℤ c.scaled.result) < 2 ^ 63
+sum-abs : (c : tie.After-scaled) → nat_abs (c.args.v +ℤ c.scaled.result) < 2 ^ 63
 sum-abs c =
     let s = c.before.before.before.before in
     let shift = s.args.p.ki_shift in
@@ -48,7 +48,7 @@ sum-abs c =
     rw (scaled-is c) (omega (arith, s.requires, abs-add s.args.v moved, scaled-abs shift (ki-fits c.before) s.ranges.e))
 
 add-clamp : tie.Need-overflow_add-v
-add-clamp c = simp (to_z-of_z c.before.before.before.before.ranges.v, held w64 c.scaled.result c.scaled.type_inv) (sfit (sum-abs c))
+add-clamp c = simp (to_z-of_z c.ranges.v, held w64 c.scaled.result c.scaled.type_inv) (sfit (sum-abs c))
 
 sub-clamp : tie.Need-overflow_sub-end
 sub-clamp c = let f = max-fits c.before.before in simp (end_is f, +ℤ_idl) (low_fits f)

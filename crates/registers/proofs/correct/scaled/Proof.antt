@@ -13,7 +13,7 @@ round-product-requires c κs = search rules
 
 returns : tie.Need-returns
 returns c =
-    let f = c.before.ranges in
+    let f = c.ranges in
     let told : c.round_product.result ≡ _ = simp (to_z-of_z f.gain, to_z-of_z f.e) at c.round_product.ensures in
     held w64 c.round_product.result c.round_product.type_inv ∙ told
 

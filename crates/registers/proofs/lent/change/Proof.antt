@@ -97,7 +97,7 @@ module _ {M : Type 1} {𝓤 : Ura M} (𝓛 : Logic 𝓤) (at_mem : Memory → SP
   abbrev to-after : (After 𝓛 at_mem run).Ghost
   to-after = ((tt, tt, tt, to, (R'.lowered h ∷ [], (P'.lowered p ∷ [], (vbool due ∷ [], (D'.lowered w ∷ [], tt))))), tt)
 
-  goes_after : Is R.the_row h (R'.lowered h ∷ []) → ent 𝓤 (sem 𝓛 ftrue) ((After 𝓛 at_mem run).requires to-after)
+  goes_after : Is R.the_row h (R'.lowered h ∷ []) → ent 𝓤 (sem 𝓛 ftrue) ((After 𝓛 at_mem run).pre to-after)
   goes_after h-is =
       qed 𝓛 (‵ ftrue ∷ []) ∵ nothing ! $ owned ! D.the_row (Is D.the_row) (LL.makes D.the_type D'.the_plain 𝓛) w _ w-is $ fjoin ! $
       owned ! bool (Is bool) (bool_Makes 𝓛) due _ refl $ fjoin ! $ owned ! P.the_row (Is P.the_row)
@@ -142,7 +142,7 @@ module _ {M : Type 1} {𝓤 : Ura M} (𝓛 : Logic 𝓤) (at_mem : Memory → SP
         assigns ! (of_opd ! (load ! (from ! (hop ! (look ! 17 refl) (stop !))) (look_raw ! 0 refl))) (from ! (stop !))
         (init ! 7 refl ((LL.lawful R.the_type R'.the_laws 𝓛).typed h _ h-is).0) $
         -- `after_symbol`
-        move ! (5 ∷ []) $ use1 𝓛 (raw ((After 𝓛 at_mem run).requires to-after)) (goes_after h-is) $
+        move ! (5 ∷ []) $ use1 𝓛 (raw ((After 𝓛 at_mem run).pre to-after)) (goes_after h-is) $
         calls_at ! fm (After 𝓛 at_mem run) known to-after
         (and_then ! (load ! (from ! (stop !)) (look ! 7 refl)) (and_then ! (load ! (from ! (stop !)) (look ! 15 refl))
         (and_then ! (load ! (from ! (stop !)) (look ! 13 refl)) (and_then ! (load ! (from ! (stop !)) (look ! 11 refl)) (no_more !))))) (λ v.

@@ -126,7 +126,7 @@ module _ {M : Type 1} {𝓤 : Ura M} (𝓛 : Logic 𝓤) (at_mem : Memory → SP
 
   goes-change : (l ν : ℕ) (γ : GName)
       → ent 𝓤 (sep 𝓤 (A.lft (ν ∷ []) full_share) (sem 𝓛 ((MutRef (named 0) (ν ∷ []) R.the_row).own_val (lent l γ).0 (vptr l 0 ∷ []))))
-      ((Change 𝓛 at_mem run).requires (to-change l ν γ))
+      ((Change 𝓛 at_mem run).pre (to-change l ν γ))
   goes-change l ν γ =
       qed 𝓛 (‵ (flft (ν ∷ []) full_share) ∷ ‵ ((MutRef (named 0) (ν ∷ []) R.the_row).own_val (lent l γ).0 (vptr l 0 ∷ [])) ∷ []) ∵
       nothing ! $ owned ! D.the_row (Is D.the_row) (LL.makes D.the_type D'.the_plain 𝓛) w _ w-is $ fjoin ! $ owned ! bool (Is bool)
@@ -162,7 +162,7 @@ module _ {M : Type 1} {𝓤 : Ura M} (𝓛 : Logic 𝓤) (at_mem : Memory → SP
         use1 𝓛 (later (some (λ (γ : GName). ‵ ((MutRef (named 0) (ν ∷ []) R.the_row).own_val (lent l₅ γ).0 (vptr l₅ 0 ∷ []))
         ⊛ ‵ (flent (ν ∷ []) (Body (mem R.the_row) l₅ 0 γ))))) (lends_ref 𝓛 R.the_row (named 0) (ν ∷ []) h l₅ 0) $ await ! tt $ pick ! (λ γ. split ! $
         -- `change`
-        move ! (2 ∷ 0 ∷ []) $ use2 𝓛 (raw ((Change 𝓛 at_mem run).requires (to-change l₅ ν γ))) (goes-change l₅ ν γ) $
+        move ! (2 ∷ 0 ∷ []) $ use2 𝓛 (raw ((Change 𝓛 at_mem run).pre (to-change l₅ ν γ))) (goes-change l₅ ν γ) $
         calls_at ! fm (Change 𝓛 at_mem run) known (to-change l₅ ν γ)
         (and_then ! (load ! (from ! (stop !)) (look ! 4 refl)) (and_then ! (load ! (from ! (stop !)) (look ! 13 refl))
         (and_then ! (load ! (from ! (stop !)) (look ! 11 refl)) (and_then ! (load ! (from ! (stop !)) (look ! 9 refl)) (no_more !))))) (λ v.

@@ -34,8 +34,8 @@ enum-known-verdict c = search rules
 
 returns : tie.Need-returns-in-Refused
 returns c =
-    let v = c.before.before.before in
-    of-sheet (sheet v.before) v.before.args.f v.validate-verdict.ensures c.before.verdict-1.given.1
+    let v = c.before in
+    of-sheet (sheet v.before) v.args.f v.validate-verdict.ensures c.in-Refused.is
 
 enum_told : tie.Need-enum_told-1
 enum_told c = search rules
@@ -45,9 +45,9 @@ check-held-requires c κs = search rules
 
 returns-2 : tie.Need-returns
 returns-2 c =
-    let v = c.before.before.before in
+    let v = c.before.before in
     let s = v.before in
-    of-state (sheet s) s.args.f (sheet-passes (sheet s) v.validate-verdict.ensures c.before.enum_told-1.given.1) c.check_held.ensures
+    of-state (sheet s) s.args.f (sheet-passes (sheet s) v.validate-verdict.ensures c.in_default.is) c.check_held.ensures
 
 pub check_ask_spec : {M : Type 1} → statement M
 check_ask_spec =

@@ -23,7 +23,7 @@ as-asked : (s : Sheet) (ticket : ℕ) (f : Frontend) {r : Refusal} → 0 < r.num
 unfolding commit_faults
 as-asked s ticket f h e = first-answer (ask_faults s f) _ h e
 
-by-ticket : (s : Sheet) (ticket : ℕ) (f : Frontend) {b : Bool} → ask_faults s f ≡ [] → eqb ticket f.registers-1.symbols ≡ b
+by-ticket : (s : Sheet) (ticket : ℕ) (f : Frontend) {b : Bool} → ask_faults s f ≡ [] → eqb ticket f.registers.symbols ≡ b
     → first_of (unless b (refusal 28 [])) ≡ first_of (commit_faults s ticket f)
 unfolding commit_faults
 by-ticket s ticket f none e = sym (first_rest (ask_faults s f) _ none ∙ ap (λ (b : Bool). first_of (unless b (refusal 28 []))) e)
@@ -36,30 +36,30 @@ enum_told c = search rules
 
 -- asking refuses nothing: the ticket decides
 tested : (c : tie.In-Accepted) {b : Bool}
-    → let s = c.before.before.before.before in eqb s.args.ticket s.args.f.registers.symbols ≡ b
+    → let s = c.before.before.before in eqb s.args.ticket s.args.f.registers.symbols ≡ b
     → first_of (unless b (refusal 28 [])) ≡ first_of (commit_faults (sheet s) s.args.ticket s.args.f)
 tested c e =
-    let t = c.before.before.before in
+    let t = c.before.before in
     let s = t.before in
-    by-ticket (sheet s) s.args.ticket s.args.f (passes (ask-numbered (sheet s) s.args.f) t.check_ask-verdict.ensures c.enum_told-1.given.1) e
+    by-ticket (sheet s) s.args.ticket s.args.f (passes (ask-numbered (sheet s) s.args.f) t.check_ask-verdict.ensures c.in-Accepted.is) e
 
 returns : tie.Need-returns-then-ticket-registers
 returns c =
     let t = c.before.before in
-    let a = t.before.before.before.before.args in
+    let a = t.args in
     tested t {b = false} (ne_eqb a.ticket a.f.registers.symbols c.if-ticket-registers.true)
 
 returns-2 : tie.Need-returns-else-ticket-registers
 returns-2 c =
     let t = c.before.before in
-    let a = t.before.before.before.before.args in
+    let a = t.args in
     tested t {b = true} (eq-eqb a.ticket a.f.registers.symbols c.if-ticket-registers.false)
 
 returns-3 : tie.Need-returns-in_default
 returns-3 c =
     let t = c.before.before in
     let s = t.before in
-    as-asked (sheet s) s.args.ticket s.args.f (refuses t.check_ask-verdict.result c.match.keys2) t.check_ask-verdict.ensures
+    as-asked (sheet s) s.args.ticket s.args.f (refuses t.check_ask-verdict.result c.in_default.in_default-own.keys2) t.check_ask-verdict.ensures
 
 pub check_commit_spec : {M : Type 1} → statement M
 check_commit_spec = tie.close (tie.spec check-ask-requires enum_told returns returns-2 returns-3)

@@ -12,7 +12,7 @@ is-good-requires c κs = search rules
 
 returns : tie.Need-returns
 unfolding can_go_on
-returns c = rw (c.before.are_same.ensures, c.is_good.ensures)
+returns c = rw (c.are_same.ensures, c.is_good.ensures)
 
 pub can_go_on_spec : {M : Type 1} → statement M
 can_go_on_spec = tie.close (tie.spec are-same-requires is-good-requires returns)

@@ -20,16 +20,16 @@ check-sizes-requires c κs = search rules
 
 returns : tie.Need-returns-in-Accepted
 returns c =
-    let t = c.before.before.before in
-    let a = t.before.args in
+    let t = c.before.before in
+    let a = t.args in
     sizes-answer (sheet t.before) a.self a.values a.places
-    (passes (state-numbered (sheet t.before) a.self) t.check_state-verdict.ensures c.before.enum_told-1.given.1) c.check_sizes.ensures
+    (passes (state-numbered (sheet t.before) a.self) t.check_state-verdict.ensures c.in-Accepted.is) c.check_sizes.ensures
 
 returns-2 : tie.Need-returns-in_default
 returns-2 c =
     let t = c.before in
-    let a = t.before.args in
-    state-refuses (sheet t.before) a.self a.values a.places (refuses t.check_state-verdict.result c.match.keys2) t.check_state-verdict.ensures
+    let a = t.args in
+    state-refuses (sheet t.before) a.self a.values a.places (refuses t.check_state-verdict.result c.in_default.in_default-own.keys2) t.check_state-verdict.ensures
 
 pub check_block_spec : {M : Type 1} → statement M
 check_block_spec =

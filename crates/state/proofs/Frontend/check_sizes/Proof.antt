@@ -29,7 +29,7 @@ unfolding size_faults
 answer f values places first = first.is
 
 returns : tie.Need-returns-then-values-ne0
-returns c = let a = c.before.args in answer a.self a.values a.places (breaks (lit< tt) (ne_eqb (a.values % 2) 0 c.if-values-ne0.true))
+returns c = let a = c.args in answer a.self a.values a.places (breaks (lit< tt) (ne_eqb (a.values % 2) 0 c.if-values-ne0.true))
 
 -- 11: values for which there are no 20 places
 short : (values places : ℕ) → (values ≡ 0 → ⊥) → places < 20 → (eqb values 0 || leb 20 places) ≡ false
@@ -37,10 +37,10 @@ short values places h l = rw (ne_eqb values 0 h) (lt-leb 20 places l)
 
 returns-2 : tie.Need-returns-then-places-lt20
 returns-2 c =
-    let a = c.before.before.before.args in
+    let a = c.args in
     answer a.self a.values a.places
-    (keeps (refusal 10 []) (eq-eqb (a.values % 2) 0 c.before.before.if-values-ne0.false)
-    (breaks (lit< tt) (short a.values a.places c.before.if2.true (ltb-true a.places 20 c.if-places-lt20.true))))
+    (keeps (refusal 10 []) (eq-eqb (a.values % 2) 0 c.if-values-ne0.false)
+    (breaks (lit< tt) (short a.values a.places c.if-values-ne0-2.true (ltb-true a.places 20 c.if-places-lt20.true))))
 
 pairs-taken-requires : tie.Need-pairs_taken-requires
 pairs-taken-requires c κs = search rules
@@ -48,28 +48,28 @@ pairs-taken-requires c κs = search rules
 sub-room : tie.Need-overflow_sub-room
 unfolding pairs_taken
 sub-room c =
-    let a = c.before.before.before.args in
+    let a = c.args in
     let few : a.values / 2 ≤ 9223372036854775807 = search rules in
     omega (arith, c.pairs_taken.ensures, few)
 
 -- an even number of values, with room for a symbol if there are any
-sized : (c : tie.Joined-else-values-ne0-2) → let a = c.before.before.args in (a.values ≡ 0) ⊎ (20 ≤ a.places)
-sized c = ⊎_elim (λ t. inr (ltb-false c.before.before.args.places 20 t.1.left)) (λ e. inl e.left) c.if2.branch
+sized : (c : tie.Joined-else-values-ne0-2) → let a = c.args in (a.values ≡ 0) ⊎ (20 ≤ a.places)
+sized c = ⊎_elim (λ t. inr (ltb-false c.args.places 20 t.1.left)) (λ e. inl e.left) c.else-values-ne0-2.branch
 
 long : (c : tie.Joined-else-values-ne0-2) {r : Refusal}
-    → let a = c.before.before.args in
+    → let a = c.args in
     First (unless (leb (a.self.samples + pairs_taken a.values a.places) 9223372036854775807) (refusal 12 []) ∷ []) r
     → r ≡ first_of (size_faults a.self a.values a.places)
 long c rest =
-    let a = c.before.before.args in
+    let a = c.args in
     answer a.self a.values a.places
-    (keeps (refusal 10 []) (eq-eqb (a.values % 2) 0 c.before.if-values-ne0.false)
+    (keeps (refusal 10 []) (eq-eqb (a.values % 2) 0 c.if-values-ne0.false)
     (keeps (refusal 11 []) (enough a.values a.places (sized c)) rest))
 
 returns-3 : tie.Need-returns-then-room-self
 returns-3 c =
     let t = c.before.before in
-    let a = t.before.before.before.args in
+    let a = t.args in
     long t.before
     (breaks (lit< tt) (lt-leb (a.self.samples + pairs_taken a.values a.places) 9223372036854775807
     (omega (arith, c.if-room-self.true, t.pairs_taken.ensures))))
@@ -77,7 +77,7 @@ returns-3 c =
 returns-4 : tie.Need-returns
 returns-4 c =
     let t = c.before.before in
-    let a = t.before.before.before.args in
+    let a = t.args in
     long t.before
     (keeps (refusal 12 [])
     (le-leb (a.self.samples + pairs_taken a.values a.places) 9223372036854775807

@@ -4,7 +4,6 @@ use mathlib.Core.Path.{◌≡◌, sym, ◌∙◌}
 use mathlib.Core.Bool.{Bool}
 use mathlib.Core.List.{[]}
 use borrow.Author.Rules.{rules}
-use borrow.Author.Tests.{not-true, not-false}
 use Rattle.params.specs.Refusal.{refusal, unless, first_of}
 use Rattle.params.specs.Judge.{Sheet, sheet_of}
 use Rattle.state.specs.Check.{state_faults}
@@ -22,7 +21,7 @@ enum-known-verdict : tie.Need-enum_known-verdict
 enum-known-verdict c = search rules
 
 returns : tie.Need-returns-in-Refused
-returns c = let v = c.before.before.before in sheet-refuses (sheet v.before) _ v.validate-verdict.ensures c.before.verdict-1.given.1
+returns c = let v = c.before in sheet-refuses (sheet v.before) _ v.validate-verdict.ensures c.in-Refused.is
 
 enum_told : tie.Need-enum_told-1
 enum_told c = search rules
@@ -32,17 +31,17 @@ can-go-on-requires c κs = search rules
 
 -- an accepted sheet: the answer by what the test came to
 tested : (c : tie.After-can_go_on) {b : Bool} → c.can_go_on.result ≡ b
-    → let s = c.before.before.before.before in first_of (unless b (refusal 9 [])) ≡ first_of (state_faults (sheet s) s.args.self)
+    → let s = c.before.before.before in first_of (unless b (refusal 9 [])) ≡ first_of (state_faults (sheet s) s.args.self)
 tested c e =
-    let v = c.before.before.before in
-    state-answer (sheet v.before) v.before.args.self (sheet-passes (sheet v.before) v.validate-verdict.ensures c.before.enum_told-1.given.1)
+    let v = c.before.before in
+    state-answer (sheet v.before) v.args.self (sheet-passes (sheet v.before) v.validate-verdict.ensures c.in_default.is)
     (sym c.can_go_on.ensures ∙ e)
 
 returns-2 : tie.Need-returns-then-not-can_go_on
-returns-2 c = tested c.before (not-true c.before.can_go_on.result c.if-not-can_go_on.true)
+returns-2 c = tested c.before c.if-not-can_go_on.true
 
 returns-3 : tie.Need-returns
-returns-3 c = tested c.before (not-false c.before.can_go_on.result c.if-not-can_go_on.false)
+returns-3 c = tested c.before c.if-not-can_go_on.false
 
 pub check_state_spec : {M : Type 1} → statement M
 check_state_spec =

@@ -13,8 +13,8 @@ is-good-state-requires c κs = search rules
 
 returns : tie.Need-returns
 returns c =
-    let a = c.before.before.before.args in
-    c.is_good_state.ensures ∙ outline-good a.p a.self c.before.position.ensures
+    let a = c.args in
+    c.is_good_state.ensures ∙ outline-good a.p a.self c.position.ensures
 
 pub is_good_spec : {M : Type 1} → statement M
 is_good_spec = tie.close (tie.spec position-requires is-good-state-requires returns)

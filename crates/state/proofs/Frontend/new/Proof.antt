@@ -44,9 +44,8 @@ fresh-requires c κs = search rules
 returns : tie.Need-returns-in-Refused
 returns c =
     let n = c.before in
-    let v = n.before.before.before.before in
-    let e = n.before.before.verdict-1.given in
-    none-starts (sheet v.before) (error-numbered e.0.0) (refused {r = judged (sheet v.before)} v.validate-verdict.ensures e.1)
+    let v = n.before.before in
+    none-starts (sheet v.before) (error-numbered n.in-Refused.e) (refused {r = judged (sheet v.before)} v.validate-verdict.ensures n.in-Refused.is)
     (c.fresh.ensures ∙ ap fresh n.none.ensures)
 
 enum_told : tie.Need-enum_told-1
@@ -57,8 +56,8 @@ fresh-requires-2 c κs = search rules
 
 returns-2 : tie.Need-returns
 returns-2 c =
-    let v = c.before.before.before in
-    starts (sheet v.before) v.validate-verdict.ensures c.before.enum_told-1.given.1 c.fresh-2.ensures
+    let v = c.before.before in
+    starts (sheet v.before) v.validate-verdict.ensures c.in_default.is c.fresh-2.ensures
 
 pub new_spec : {M : Type 1} → statement M
 new_spec =

@@ -35,17 +35,17 @@ check-state-requires c κs = search rules
 enum_told : tie.Need-enum_told-1
 enum_told c = search rules
 
-faultless : (c : tie.In-Accepted) → let s = c.before.before.before.before in state_faults (sheet s) s.args.self ≡ []
+faultless : (c : tie.In-Accepted) → let s = c.before.before.before in state_faults (sheet s) s.args.self ≡ []
 faultless c =
-    let t = c.before.before.before in
-    passes (state-numbered (sheet t.before) t.before.args.self) t.check_state-verdict.ensures c.enum_told-1.given.1
+    let t = c.before.before in
+    passes (state-numbered (sheet t.before) t.args.self) t.check_state-verdict.ensures c.in-Accepted.is
 
 gain-requires : tie.Need-gain-requires
 gain-requires c κs = search rules
 
 returns : tie.Need-returns-in-Accepted
 returns c =
-    let s = c.before.before.before.before.before in
+    let s = c.before.before.before.before in
     let f = s.args.self in
     let few = (going s.args.p f (state-good (sheet s) f (faultless c.before))).loop.gain in
     let small : f.registers.gain_acc / 256 % 65536 ≡ f.registers.gain_acc / 256 = omega (arith, few) in
@@ -54,7 +54,7 @@ returns c =
 returns-2 : tie.Need-returns-in_default
 returns-2 c =
     let t = c.before.before in
-    none_read (sheet t.before) t.before.args.self (refuses t.check_state-verdict.result c.match.keys2) t.check_state-verdict.ensures
+    none_read (sheet t.before) t.args.self (refuses t.check_state-verdict.result c.in_default.in_default-own.keys2) t.check_state-verdict.ensures
 
 pub read_spec : {M : Type 1} → statement M
 read_spec = tie.close (tie.spec check-state-requires enum_told gain-requires returns returns-2)

@@ -25,7 +25,7 @@ use Rattle.state.proofs.check.is_good_state.Tie as tie
 
 -- ---- the integrator's ends
 
-most : (c : tie.After-struct_told-1) → SFits w32 c.before.before.args.p.integrator_max
+most : (c : tie.After-struct_told-1) → SFits w32 c.args.p.integrator_max
 most c = record { sfits = search c.struct_told-1.given depth 40 }
 
 cast-end : tie.Need-overflow_cast-end
@@ -51,9 +51,9 @@ under n delay h = omega arith
 over : (n delay : ℕ) → delay ≤ n → delay ≡ min n delay
 over n delay h = omega arith
 
-waits : (c : tie.Joined-r-delay) → let a = c.before.before.before.before.before.args in c.if-r-delay.waiting ≡ min a.r.symbols a.p.delay
+waits : (c : tie.Joined-r-delay) → let a = c.args in c.if-r-delay.waiting ≡ min a.r.symbols a.p.delay
 waits c =
-    let a = c.before.before.before.before.before.args in
+    let a = c.args in
     ⊎_elim (λ t. t.1 ∙ under a.r.symbols a.p.delay t.0.taken) (λ e. e.1 ∙ over a.r.symbols a.p.delay e.0.left) c.if-r-delay.branch
 
 -- ---- the tests so far, and the next
@@ -104,7 +104,7 @@ passed5 c =
     let m = most c.before.before.before.before.before.before.before.before.before in
     let high = integrator_end s.args.p in
     and-next
-    (and-next (passed3 c.before.before) c.before.if-r-lt67108864.branch (λ t. (t.0.taken, t.3 ∙ low-test m v t.2.given.1.1.0.1))
+    (and-next (passed3 c.before.before) c.if-r-lt67108864.branch (λ t. (t.0.taken, t.3 ∙ low-test m v t.2.given.1.1.0.1))
     (λ n. (n.0.left, n.1)))
     c.if-end-r.branch (λ t. (t.0.taken, t.3 ∙ high-test m v t.2.given.1.1.0.1)) (λ n. (n.0.left, n.1))
     ∙ and_assoc (good3 s) (le_z (neg_ℤ high) v) (le_z v high)
@@ -113,8 +113,8 @@ passed8 : (c : tie.Joined-r-p) → c.if-r-p.if9 ≡ good8 (start c.before.before
 passed8 c =
     and-next
     (and-next
-    (and-next (passed5 c.before.before.before) c.before.before.if-r-end.branch (λ t. (t.0.taken, t.3)) (λ n. (n.0.left, n.1)))
-    c.before.if-p-r.branch (λ t. (t.0.taken, t.3)) (λ n. (n.0.left, n.1)))
+    (and-next (passed5 c.before.before.before) c.if-r-end.branch (λ t. (t.0.taken, t.3)) (λ n. (n.0.left, n.1)))
+    c.if-p-r.branch (λ t. (t.0.taken, t.3)) (λ n. (n.0.left, n.1)))
     c.if-r-p.branch (λ t. (t.0.taken, t.2)) (λ n. (n.0.left, n.1))
 
 passed10 : (c : tie.Joined-w-waiting) → c.if-w-waiting.if11 ≡ good10 (start-10 c)
@@ -122,7 +122,7 @@ passed10 c =
     let s = start-10 c in
     let waiting = waits c.before.before.before.before.before.before.before.before.before.before.before in
     and-next
-    (and-next (passed8 c.before.before) c.before.if-r-le16777215.branch
+    (and-next (passed8 c.before.before) c.if-r-le16777215.branch
     (λ t. (t.0.taken, t.2 ∙ ap (eqb s.args.w.waiting) waiting)) (λ n. (n.0.left, n.1)))
     c.if-w-waiting.branch (λ t. (t.0.taken, t.2)) (λ n. (n.0.left, n.1))
 
@@ -137,7 +137,7 @@ but_last c b e =
     with-next (leb a.r.symbols a.w.samples) (sym e ∙ passed10 c)
 
 returns : tie.Need-returns-then-w-lt-RING_PLACES
-returns c = but_last c.before.before.before true c.before.before.if-w-lt-RING_PLACES.true
+returns c = but_last c.before.before.before true c.if-w-lt-RING_PLACES.true
 
 returns-2 : tie.Need-returns-else-w-lt-RING_PLACES
 returns-2 c = c.if-w-lt-RING_PLACES.false ∙ but_last c.before false c.if-w-lt-RING_PLACES.false

@@ -123,7 +123,7 @@ returns c =
     let e = err.before in
     let qq = e.before in
     let qi = qq.before.before in
-    let a = (after-y err).before.before.args in
+    let a = (after-y err).args in
     let loud : Fitted → Fitted = λ x. amplified a.gain x.output in
     let k = (after-zk err).amplify-zk_fit.result.output in
     let y' = (after-y err).output_of-y_fit.ensures in
@@ -132,9 +132,9 @@ returns c =
     let z' = (after-z err).amplify-z_fit.ensures ∙ ap loud y' in
     let dz' = (after-dz err).amplify-dz_fit.ensures ∙ ap loud dy' in
     let zk' = (after-zk err).amplify-zk_fit.ensures ∙ ap loud yk' in
-    let i' = component a.p k.i (search qi.before.struct_told-1.given) qi.quantise.ensures qi.quantise.type_inv
+    let i' = component a.p k.i (search qi.struct_told-1.given) qi.quantise.ensures qi.quantise.type_inv
     ∙ ap (λ (x : Fitted). quantised a.p x.output.i) zk' in
-    let q' = component a.p k.q (search qq.before.struct_told-2-1.given) qq.quantise-2.ensures qq.quantise-2.type_inv
+    let q' = component a.p k.q (search qq.struct_told-2-1.given) qq.quantise-2.ensures qq.quantise-2.type_inv
     ∙ ap (λ (x : Fitted). quantised a.p x.output.q) zk' in
     let e' = held w32 e.timing_error.result e.timing_error.type_inv ∙ e.timing_error.ensures
     ∙ (λ t. timing_error a.p (z' t).output (dz' t).output) in

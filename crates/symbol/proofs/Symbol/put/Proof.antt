@@ -31,13 +31,13 @@ room y count out h k = rw (lt-ltb count (length out / 20) h, le-leb y.sample 922
 
 returns : tie.Need-returns-then-out-count
 unfolding put_of
-returns c = let a = c.before.args in rw (full a.self a.count a.out.now c.if-out-count.true) refl
+returns c = let a = c.args in rw (full a.self a.count a.out.now c.if-out-count.true) refl
 
 returns-2 : tie.Need-returns-then-self-gt9223372036854775807
 unfolding put_of
 returns-2 c =
     let e = c.before.before in
-    let a = e.before.args in
+    let a = e.args in
     rw (late a.self a.count a.out.now e.if-out-count.false c.if-self-gt9223372036854775807.true) refl
 
 places-requires : tie.Need-places-symbol-requires
@@ -61,11 +61,11 @@ returns-3 c =
     let w = c.before in
     let p = w.before.before.before in
     let e = p.before.before.before in
-    let a = e.before.args in
+    let a = e.args in
     let at : ℕ = 20 * a.count in
     let out : List ℤ = a.out.now in
     let written = w.write.ensures ∙ ap (λ (x : List ℤ). take at out ++ (x ++ drop (at + 20) out)) p.places-symbol.ensures in
-    rw (room a.self a.count out e.if-out-count.false p.before.if-self-gt9223372036854775807.false) (λ i. record { count = a.count + 1; output = written i })
+    rw (room a.self a.count out e.if-out-count.false p.if-self-gt9223372036854775807.false) (λ i. record { count = a.count + 1; output = written i })
 
 pub put_spec : {M : Type 1} → statement M
 put_spec =

@@ -19,7 +19,7 @@ use Rattle.symbol.proofs.make.agc_error.Tie as tie
 
 -- ---- the power
 
-i-fits : (c : tie.After-struct_told-1) → SFits w16 c.before.before.args.zk.i
+i-fits : (c : tie.After-struct_told-1) → SFits w16 c.args.zk.i
 i-fits c = record { sfits = search c.struct_told-1.given }
 
 cast-power : tie.Need-overflow_cast-power
@@ -31,7 +31,7 @@ cast-power-2 c = widens w64 tt (i-fits c.before.before)
 mul_power : tie.Need-overflow_mul-power
 mul_power c = let f = i-fits c.before.before in product-fits f f
 
-q-fits : (c : tie.After-struct_told-3-1) → SFits w16 c.before.before.before.before.before.before.args.zk.q
+q-fits : (c : tie.After-struct_told-3-1) → SFits w16 c.args.zk.q
 q-fits c = record { sfits = search c.struct_told-3-1.given }
 
 cast-power-3 : tie.Need-overflow_cast-power-3

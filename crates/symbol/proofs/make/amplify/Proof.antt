@@ -38,8 +38,8 @@ returns c =
     let a = b.before.before in
     let s = a.before.before in
     let gain = gain-is s in
-    let x = held w16 s.args.x.i (search a.before.struct_told-1.given) in
-    let y = held w16 s.args.x.q (search b.before.struct_told-2-1.given) in
+    let x = held w16 s.args.x.i (search a.struct_told-1.given) in
+    let y = held w16 s.args.x.q (search b.struct_told-2-1.given) in
     let i = held w64 a.round_product.result a.round_product.type_inv ∙ a.round_product.ensures ∙ (λ t. round_shift (x t *ℤ gain t) 10) in
     let q = held w64 b.round_product-2.result b.round_product-2.type_inv ∙ b.round_product-2.ensures ∙ (λ t. round_shift (y t *ℤ gain t) 10) in
     c.fit.ensures ∙ (λ t. fitted (i t) (q t))

@@ -50,18 +50,18 @@ module _ (c : tie.After-struct_known-2-1) where
   abbrev first : tie.After-sat16-a
   first = second.before
 
-  first-is : first.sat16-a.result ≡ saturated_to first.before.args.i
-  first-is = first.sat16-a.ensures ∙ ap (λ (z : ℤ). saturated_to z) (to_z-of_z first.before.ranges.i)
+  first-is : first.sat16-a.result ≡ saturated_to first.args.i
+  first-is = first.sat16-a.ensures ∙ ap (λ (z : ℤ). saturated_to z) (to_z-of_z first.ranges.i)
 
-  second_is : second.sat16-b.result ≡ saturated_to first.before.args.q
-  second_is = second.sat16-b.ensures ∙ ap (λ (z : ℤ). saturated_to z) (to_z-of_z first.before.ranges.q)
+  second_is : second.sat16-b.result ≡ saturated_to first.args.q
+  second_is = second.sat16-b.ensures ∙ ap (λ (z : ℤ). saturated_to z) (to_z-of_z first.ranges.q)
 
 returns : tie.Need-returns
 returns c =
     let a = first-is c in
     let b = second_is c in
-    let i = held w16 (first c).sat16-a.result.value (search c.before.before.before.struct_told-1.given) ∙ ap (λ (r : Saturated). r.value) a in
-    let q = held w16 (second c).sat16-b.result.value (search c.before.before.struct_told-2-1.given) ∙ ap (λ (r : Saturated). r.value) b in
+    let i = held w16 (first c).sat16-a.result.value (search c.struct_told-1.given) ∙ ap (λ (r : Saturated). r.value) a in
+    let q = held w16 (second c).sat16-b.result.value (search c.struct_told-2-1.given) ∙ ap (λ (r : Saturated). r.value) b in
     let m = counts (first c).sat16-a.result.changed ∙ ap (λ (r : Saturated). cond r.changed 1 0) a in
     let n = counts (second c).sat16-b.result.changed ∙ ap (λ (r : Saturated). cond r.changed 1 0) b in
     λ t. record { output = record { i = i t; q = q t }; clips = m t + n t }

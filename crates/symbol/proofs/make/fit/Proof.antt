@@ -40,7 +40,7 @@ module _ (c : tie.Then-fits_i16-2) where
   start = first.before
 
   i-holds : sat16_changes start.args.i ≡ false
-  i-holds = holds first.fits_i16.ensures (to_z-of_z start.ranges.i) second.before.if1.taken
+  i-holds = holds first.fits_i16.ensures (to_z-of_z start.ranges.i) second.if-fits_i16.taken
 
   q-holds : sat16_changes start.args.q ≡ false
   q-holds = holds second.fits_i16-then-fits_i16.ensures (to_z-of_z start.ranges.q) c.if-fits_i16-2.true
@@ -67,7 +67,7 @@ clip-requires : tie.Need-clip-requires
 clip-requires c κs = search rules
 
 returns-2 : tie.Need-returns
-returns-2 c = let f = c.before.before.before.ranges in c.clip.ensures ∙ (λ t. fitted (to_z-of_z f.i t) (to_z-of_z f.q t))
+returns-2 c = let f = c.ranges in c.clip.ensures ∙ (λ t. fitted (to_z-of_z f.i t) (to_z-of_z f.q t))
 
 pub fit_spec : {M : Type 1} → statement M
 fit_spec =

@@ -23,11 +23,11 @@ unfolding output_of
 returns c =
     let b = c.before in
     let a = b.before.before in
-    let x = a.before.before.args.s in
+    let x = a.args.s in
     let i = held w64 a.round_shift.result a.round_shift.type_inv ∙ a.round_shift.ensures
-    ∙ ap (λ (z : ℤ). round_shift z 14) (held w64 x.i (search a.before.struct_told-1.given)) in
+    ∙ ap (λ (z : ℤ). round_shift z 14) (held w64 x.i (search a.struct_told-1.given)) in
     let q = held w64 b.round_shift-2.result b.round_shift-2.type_inv ∙ b.round_shift-2.ensures
-    ∙ ap (λ (z : ℤ). round_shift z 14) (held w64 x.q (search b.before.struct_told-2-1.given)) in
+    ∙ ap (λ (z : ℤ). round_shift z 14) (held w64 x.q (search b.struct_told-2-1.given)) in
     c.fit.ensures ∙ (λ t. fitted (i t) (q t))
 
 pub output_of_spec : {M : Type 1} → statement M

@@ -115,18 +115,18 @@ clamp-requires c κs = search rules
 -- what `clamp` answers
 clamped : (c : tie.After-clamp)
     → let b = c.before.before.before in
-    let a = b.before.args in
+    let a = b.args in
     let j = b.below_sign.result in
     c.clamp.result ≡ clamp_z (round_shift a.v a.p.q_shift) (neg_ℤ (pos (2 ^ j))) (pos (2 ^ j - 1))
 unfolding one
 clamped c =
-    let r = c.before.round_product in
+    let r = c.round_product in
     let b = c.before.before.before in
     let j = b.below_sign.result in
     let h = few b in
-    let v : ℤ = b.before.args.v in
-    let shift : ℕ = b.before.args.p.q_shift in
-    let whole : r.result ≡ round_shift (v *ℤ pos 1) shift = simp (to_z-of_z b.before.ranges.v, to_z_pos w32 {n = 1} (omega arith)) at r.ensures in
+    let v : ℤ = b.args.v in
+    let shift : ℕ = b.args.p.q_shift in
+    let whole : r.result ≡ round_shift (v *ℤ pos 1) shift = simp (to_z-of_z b.ranges.v, to_z_pos w32 {n = 1} (omega arith)) at r.ensures in
     let rounded : r.result ≡ round_shift v shift = whole ∙ ap (λ (z : ℤ). round_shift z shift) (*ℤ-one v) in
     let ends = simp (held w64 r.result r.type_inv, end_is j h, +ℤ_idl) at c.clamp.ensures in
     let told : c.clamp.result ≡ _ =
@@ -143,10 +143,10 @@ returns : tie.Need-returns
 unfolding quantised
 returns c =
     let b = c.before.before.before in
-    let a = b.before.args in
+    let a = b.args in
     let z : ℤ = round_shift a.v a.p.q_shift in
     narrowed tt (fits c) ∙ clamped c ∙ ap (λ (j : ℕ). clamp_z z (neg_ℤ (pos (2 ^ j))) (pos (2 ^ j - 1))) b.below_sign.ensures
-    ∙ any_width z (a.p.bits - 1) (round-fits a.p.q_shift b.before.ranges.v)
+    ∙ any_width z (a.p.bits - 1) (round-fits a.p.q_shift b.ranges.v)
 
 pub quantise_spec : {M : Type 1} → statement M
 quantise_spec =

@@ -21,13 +21,13 @@ use Rattle.symbol.proofs.make.timing_error.Tie as tie
 
 -- ---- in phase
 
-zi-fits : (c : tie.After-struct_told-1) → SFits w16 c.before.before.args.z.i
+zi-fits : (c : tie.After-struct_told-1) → SFits w16 c.args.z.i
 zi-fits c = record { sfits = search c.struct_told-1.given }
 
 cast-product : tie.Need-overflow_cast-product
 cast-product c = widens w64 tt (zi-fits c)
 
-dzi-fits : (c : tie.After-struct_told-2-1) → SFits w16 c.before.before.before.before.args.dz.i
+dzi-fits : (c : tie.After-struct_told-2-1) → SFits w16 c.args.dz.i
 dzi-fits c = record { sfits = search c.struct_told-2-1.given }
 
 cast-product-2 : tie.Need-overflow_cast-product-2
@@ -38,13 +38,13 @@ mul-product c = product-fits (zi-fits c.before.before) (dzi-fits c)
 
 -- ---- in quadrature
 
-zq-fits : (c : tie.After-struct_told-3-1) → SFits w16 c.before.before.before.before.before.before.args.z.q
+zq-fits : (c : tie.After-struct_told-3-1) → SFits w16 c.args.z.q
 zq-fits c = record { sfits = search c.struct_told-3-1.given }
 
 cast-product-3 : tie.Need-overflow_cast-product-3
 cast-product-3 c = widens w64 tt (zq-fits c)
 
-dzq-fits : (c : tie.After-struct_told-4-1) → SFits w16 c.before.before.before.before.before.before.before.before.args.dz.q
+dzq-fits : (c : tie.After-struct_told-4-1) → SFits w16 c.args.dz.q
 dzq-fits c = record { sfits = search c.struct_told-4-1.given }
 
 cast-product-4 : tie.Need-overflow_cast-product-4
@@ -72,11 +72,11 @@ clamp-requires c κs = search rules
 
 -- what `clamp` answers
 is : (c : tie.After-clamp)
-    → let a = c.before.before.before.before.before.before.before.before.before.before.before.args in c.clamp.result ≡ timing_error a.p a.z
+    → let a = c.args in c.clamp.result ≡ timing_error a.p a.z
     a.dz
 unfolding timing_error
 is c =
-    let r = c.before.shift_right in
+    let r = c.shift_right in
     let k = c.before.before.before in
     let q = k.before.before in
     let d = q.before.before in

@@ -46,8 +46,8 @@ loop-less c = search rules
 
 loop-again : tie.Need-loop-j-preserved invariant-loop decreases-loop
 loop-again c =
-    let a = c.before.before.before.args in
-    let l = c.before.before.loop-j in
+    let a = c.args in
+    let l = c.loop-j in
     let y = a.symbol.now in
     let inside : a.w + l.j < length a.out.now = omega arith in
     let one : l.j < length y = omega arith in
@@ -56,12 +56,12 @@ loop-again c =
     (omega arith, length-set l.out (a.w + l.j) v ∙ l.invariant.1, rw (l.invariant.2, paste-suc a.out.now a.w y l.j (pos 0), add-one))
 
 same_length : tie.Need-shape_of-out invariant-loop decreases-loop
-same_length c = c.before.loop-j.invariant.1
+same_length c = c.loop-j.invariant.1
 
 returns : tie.Need-returns invariant-loop decreases-loop
 returns c =
-    let a = c.before.before.args in
-    let l = c.before.loop-j in
+    let a = c.args in
+    let l = c.loop-j in
     let y = a.symbol.now in
     let front = take a.w a.out.now in
     let behind = drop (a.w + 20) a.out.now in
