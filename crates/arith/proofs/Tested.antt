@@ -2,7 +2,6 @@
 -- The code makes the next test only where those so far hold, which is what `◌&&◌` says of Booleans; and it compares bits, which only a number's own are.
 use Prim.Native.Nat.{◌+◌, ◌≤◌, ◌<◌}
 use mathlib.Core.Path.{◌≡◌, refl, sym, ap, ◌∙◌}
-use mathlib.Core.Logic.{◌⊎◌, ⊎_elim}
 use mathlib.Core.Bool.{Bool, true, false, not, ◌&&◌, ◌||◌}
 use native.Mathlib.Omega.{arith}
 use lib.Dec.{eqb}
@@ -19,11 +18,13 @@ use Rattle.arith.proofs.Order.{pos_part, neg_part, abs-pn, neg-pos_part, neg-neg
 pub with-next : (next : Bool) {a b : Bool} → a ≡ b → (a && next) ≡ (b && next)
 with-next next e = ap (λ (b : Bool). b && next) e
 
--- the code's `&&`, by its two arms: the next test decides where those so far hold
-pub and-next : {A B : Type 0} {whole so_far next joined : Bool} → so_far ≡ whole → A ⊎ B
-    → (A → (so_far ≡ true) × (joined ≡ next)) → (B → (so_far ≡ false) × (joined ≡ so_far)) → joined ≡ (whole && next)
-and-next {next} e came taken left =
-    ⊎_elim (λ t. (taken t).1 ∙ sym (with-next next (taken t).0)) (λ n. (left n).1 ∙ (left n).0 ∙ sym (with-next next (left n).0)) came ∙ with-next next e
+-- the code's `&&`, in the arm where those so far hold: the next test decides
+pub and-taken : {whole so_far next joined : Bool} → so_far ≡ whole → so_far ≡ true → joined ≡ next → joined ≡ (whole && next)
+and-taken {next} e held is = is ∙ sym (with-next next held) ∙ with-next next e
+
+-- and where they do not: none is made
+pub and-left : (next : Bool) {whole so_far joined : Bool} → so_far ≡ whole → so_far ≡ false → joined ≡ so_far → joined ≡ (whole && next)
+and-left next e failed is = is ∙ failed ∙ sym (with-next next failed) ∙ with-next next e
 
 -- a number that is no further from zero than an end to either side
 pub between-abs : (e z : ℤ) → le_z (neg_ℤ e) z ≡ true → le_z z e ≡ true → nat_abs z ≤ nat_abs e

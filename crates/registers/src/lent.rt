@@ -7,7 +7,7 @@ use params::Params;
 
 // Changes the registers as a symbol does and answers true; where no symbol can be made of them it leaves them and answers false.
 pub fn change(r: &mut Registers, p: Params, due: bool, w: Pending) -> bool
-    ensures { record { registers = r.new; result = result } ≡ after_symbol p r.old due w }
+    ensures { record { registers = r.new; made = result } ≡ after_symbol p r.old due w }
 {
     let s = r.after_symbol(p, due, w);
     *r = s.registers;

@@ -81,7 +81,7 @@ told : (c : tie.Else-not-can_make_symbol) → let a = c.args in CanMake a.p a.se
 told c = let a = c.args in tells a.p a.self (can-make c)
 
 most : (s : tie.Start) → SFits w32 s.args.p.integrator_max
-most s = record { sfits = search s.well-formed.1.0 depth 40 }
+most s = record { sfits = search s.well_formed.1.0 depth 40 }
 
 found-requires : tie.Need-found-d-requires
 found-requires c κs = omega (arith, (told c).within, end-abs (most c.before.before))

@@ -24,7 +24,7 @@ next-v-abs p v e f = clamp-abs _ (neg_ℤ (integrator_end p)) (integrator_end p)
 
 -- what the sheet as given tells of its eleventh field
 max-fits : (s : tie.Start) → SFits w32 s.args.p.integrator_max
-max-fits s = record { sfits = search s.well-formed.0.1.1 depth 40 }
+max-fits s = record { sfits = search s.well_formed.0.1.1 depth 40 }
 
 next-v-requires : tie.Need-next_v-v-requires
 next-v-requires c κs = search rules

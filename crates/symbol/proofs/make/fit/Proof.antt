@@ -40,7 +40,7 @@ module _ (c : tie.Then-fits_i16-2) where
   start = first.before
 
   i-holds : sat16_changes start.args.i ≡ false
-  i-holds = holds first.fits_i16.ensures (to_z-of_z start.ranges.i) second.if-fits_i16.taken
+  i-holds = holds first.fits_i16.ensures (to_z-of_z start.ranges.i) second.if-fits_i16.true
 
   q-holds : sat16_changes start.args.q ≡ false
   q-holds = holds second.fits_i16-then-fits_i16.ensures (to_z-of_z start.ranges.q) c.if-fits_i16-2.true
