@@ -74,7 +74,7 @@ mul-run : tie.Need-overflow_mul-taken
 mul-run c = let t = chosen c in record { fits = omega (arith, (ok t.before).sizes.few, t.pairs_taken-taken.ensures) }
 
 slice-aggregate-run : tie.Need-slice_bounds-run-end
-slice-aggregate-run c = sym (lent (chosen c.before))
+slice-aggregate-run c = sym (lent (chosen c))
 
 slice-aggregate-run-2 : tie.Need-slice_bounds-run-end-2
 slice-aggregate-run-2 c = search rules
@@ -94,21 +94,21 @@ position-requires c κs = search rules
 -- ---- from the arrays taken out of the state to those lent to the block
 
 abbrev queue-out : tie.After-position → tie.After-unpack_pending
-queue-out c = c.before.before.before.before.before.before.before.before.before.before
+queue-out c = c.before.before.before.before.before.before.before.before.before
 
 abbrev line-out : tie.After-position → tie.After-unpack_line
 line-out c = (queue-out c).before.before.before.before.before
 
 abbrev choice : tie.After-position → tie.After-pairs_taken-taken
-choice c = chosen c.before.before.before.before.before.before.before
+choice c = chosen c.before.before.before.before.before.before
 
 abbrev start : tie.After-position → tie.Start
 start c = (choice c).before
 
 begins : (c : tie.After-position)
-    → let l = (line-out c).unpack_line.new.1.1 in
-    let q = (queue-out c).unpack_pending.new.1 in
-    Stands (start c).args.p.taps (kept l.0 l.1.0 q.0 q.1.0 (start c).args.f.registers c.position.result) (start c).args.f
+    → let l = (line-out c).unpack_line.new in
+    let q = (queue-out c).unpack_pending.new in
+    Stands (start c).args.p.taps (kept l.i l.q q.e q.err (start c).args.f.registers c.position.result) (start c).args.f
 begins c =
     let w = sym c.position.ensures in
     record {
@@ -164,9 +164,9 @@ abbrev ending : (c : tie.After-run-s) → Frontend
 ending c = let s = start c.before in after (sheet s) s.args.f (pairs c.before)
 
 ends : (c : tie.After-run-s)
-    → let l = c.run-s.new.1.1.1.1.1.1 in
+    → let l = c.run-s.new in
     Stands (start c.before).args.p.taps
-    (kept l.0 l.1.0 l.1.1.0 l.1.1.1.0 c.run-s.result.registers c.run-s.result.position) (ending c)
+    (kept l.i l.q l.e l.err c.run-s.result.registers c.run-s.result.position) (ending c)
 ends c = rw (cut c.before) at (c.run-s.ensures.state (start c.before).args.f (begins c.before))
 
 slice-aggregate-pack-line : tie.Need-slice_bounds-pack_line-end

@@ -34,10 +34,10 @@ module _ (t : tie.In-loop-n invariant-loop decreases-loop) where
   start = t.before.before.before.before
 
   at_i : get_or start.args.i.now t.loop-n.n 0 < 4294967296
-  at_i = start.requires.1.small-i t.loop-n.n t.loop-n-test.taken
+  at_i = start.requires.1.small-i t.loop-n.n t.loop-n-test.true
 
   at-q : get_or start.args.q.now t.loop-n.n 0 < 4294967296
-  at-q = start.requires.1.small-q t.loop-n.n t.loop-n-test.taken
+  at-q = start.requires.1.small-q t.loop-n.n t.loop-n-test.true
 
 -- lowered, such a number is one of 32 bits signed
 narrow-fits : (u : ℕ) {z : ℤ} → u < 4294967296 → z ≡ lowered u → SFits w32 (to_z w64 (of_z w64 z))

@@ -104,8 +104,8 @@ module _ (c : tie.After-push-s invariant-loop decreases-loop) where
 
   abbrev behind : Kept
   behind =
-      let last = c.push-s.new.1.1.1.1.1 in
-      kept last.0 last.1.0 last.1.1.0 last.1.1.1.0 c.push-s.result.registers c.push-s.result.position
+      let last = c.push-s.new in
+      kept last.i last.q last.e last.err c.push-s.result.registers c.push-s.result.position
 
   turns : Turn (sheet b) b.args.values.now b.args.out.now (x₀ b) before behind read c.push-s.result.made c.push-s.result.symbol
   turns = record {
@@ -134,7 +134,7 @@ add-clips c =
     let t = turn (pushed c) in
     record { fits = omega (arith, added c, (at-loop t).loop-n.invariant.few-clips, below t, (start t).requires.1.0) }
 
-add-n : tie.Need-overflow_add-n invariant-loop decreases-loop
+add-n : tie.Need-overflow_add-n-in-loop-n invariant-loop decreases-loop
 add-n c = let t = turn (pushed c.before.before) in record { fits = omega (arith, below t, (start t).requires.1.1) }
 
 loop-less : tie.Need-loop-n-smaller invariant-loop decreases-loop
@@ -147,7 +147,7 @@ loop-again c =
     let u = pushed a in
     let b = b u in
     turned-next (sheet b) b.args.values.now b.args.out.now (x₀ b) b.requires.1.0 b.requires.1.1
-    (at-loop (turn u)).loop.inv (below (turn u)) (read_is u) (turns u) e.emit-count.ensures e.emit-count.auto.out a.clips_of-clips.ensures
+    (at-loop (turn u)).loop-n.invariant (below (turn u)) (read_is u) (turns u) e.emit-count.ensures e.emit-count.auto.out a.clips_of-clips.ensures
 
 same_length : tie.Need-shape_of-out invariant-loop decreases-loop
 same_length c = c.loop-n.invariant.long

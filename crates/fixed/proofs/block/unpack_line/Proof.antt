@@ -17,7 +17,7 @@ decreases-loop taps i₀ q₀ line n₀ i q n = taps - n
 loop-holds : tie.Need-loop-n-init invariant-loop decreases-loop
 loop-holds c =
     let a = c.args in
-    let line = a.t1 in
+    let line = a.line in
     (omega arith, (laying-none (λ m. (get_or line m no_pair).i) a.i.now (omega arith), laying-none (λ m. (get_or line m no_pair).q) a.q.now (omega arith)))
 
 mul-m : tie.Need-offset_bounds-line-n invariant-loop decreases-loop
@@ -54,7 +54,7 @@ loop-again : tie.Need-loop-n-preserved invariant-loop decreases-loop
 loop-again c =
     let first = c.before.before in
     let l = first.loop-n in
-    let m = get_or first.args.t1 l.n no_pair in
+    let m = get_or first.args.line l.n no_pair in
     let i = first.raise in
     let q = c.raise-in-loop-n in
     let i-is : lowered i.result ≡ m.i = i.ensures.0 ∙ held w32 m.i (search (rules, first.before)) in

@@ -17,7 +17,7 @@ decreases-loop e₀ err₀ pending n₀ e err n = ring_places - n
 loop-holds : tie.Need-loop-n-init invariant-loop decreases-loop
 loop-holds c =
     let a = c.args in
-    (omega arith, filled_none (pos 0) (λ m. (get_or a.t1 m no_pending).e) a.e.now, filled_none (pos 0) (λ m. (get_or a.t1 m no_pending).err) a.err.now)
+    (omega arith, filled_none (pos 0) (λ m. (get_or a.pending m no_pending).e) a.e.now, filled_none (pos 0) (λ m. (get_or a.pending m no_pending).err) a.err.now)
 
 mul-m : tie.Need-offset_bounds-pending-n invariant-loop decreases-loop
 mul-m c = search rules
@@ -47,7 +47,7 @@ loop-again : tie.Need-loop-n-preserved invariant-loop decreases-loop
 loop-again c =
     let a = c.args in
     let l = c.loop-n in
-    let m = get_or a.t1 l.n no_pending in
+    let m = get_or a.pending l.n no_pending in
     simp (held w32 m.e (search rules), held w32 m.err (search rules))
     (omega arith, filled_next l.invariant.1 (omega arith), filled_next l.invariant.2 (omega arith))
 

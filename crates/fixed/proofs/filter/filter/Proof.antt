@@ -59,20 +59,20 @@ line-run-requires c κs =
 line-run-requires-2 : tie.Need-line_run-both-requires
 line-run-requires-2 c κs =
     let s = start c in
-    ((s.pre.0, summed-wider (omega (arith, s.pre.0.row-k.short)) (first-few c)), (omega (arith, s.pre.1), omega (arith, s.pre.1)))
+    ((s.requires.0, summed-wider (omega (arith, s.requires.0.row-k.short)) (first-few c)), (omega (arith, s.requires.1), omega (arith, s.requires.1)))
 
 unraised-requires : tie.Need-unraised-requires
 unraised-requires c κs =
-    let r = c.before.before.before in
+    let r = c.before.before.before.before in
     let s = start r.before in
     let both : SummedUpto 64 r.line_run-both.result =
-    summed-wider (omega (arith, s.pre.0.row-k.short, s.pre.1))
+    summed-wider (omega (arith, s.requires.0.row-k.short, s.requires.1))
     (r.line_run-both.ensures.few (0 + (taps r.before - head r.before)) (first-few r.before)) in
     both.output
 
 returns : tie.Need-returns
 returns c =
-    let r = c.before.before.before.before in
+    let r = c.before.before.before.before.before in
     let f = r.before in
     let s = start f in
     let a = s.args in
@@ -81,11 +81,11 @@ returns c =
     let two = r.line_run-both.ensures in
     λ l laid.
     let first_of : List ℤ → Sums = λ row. first_run (taps f) row l (head f) in
-    let h = total a.h.now (taps f) (head f) s.pre.1 f.line_run-first.result.detected.h r.line_run-both.result.detected.h l
+    let h = total a.h.now (taps f) (head f) s.requires.1 f.line_run-first.result.detected.h r.line_run-both.result.detected.h l
     (one.of-h l laid ∙ ap (λ (z : Summed). together z.detected.h (first_of a.h.now)) bare) (two.of-h l laid) in
-    let g = total a.g.now (taps f) (head f) s.pre.1 f.line_run-first.result.detected.g r.line_run-both.result.detected.g l
+    let g = total a.g.now (taps f) (head f) s.requires.1 f.line_run-first.result.detected.g r.line_run-both.result.detected.g l
     (one.of-g l laid ∙ ap (λ (z : Summed). together z.detected.g (first_of a.g.now)) bare) (two.of-g l laid) in
-    let k = total a.k.now (taps f) (head f) s.pre.1 (unraised_sums f.line_run-first.result.output) (unraised_sums r.line_run-both.result.output) l
+    let k = total a.k.now (taps f) (head f) s.requires.1 (unraised_sums f.line_run-first.result.output) (unraised_sums r.line_run-both.result.output) l
     (one.of-k l laid ∙ ap (λ (z : Summed). together (unraised_sums z.output) (first_of a.k.now)) bare) (two.of-k l laid) in
     λ t. h t ∷ g t ∷ (c.unraised.ensures ∙ k) t ∷ []
 

@@ -167,44 +167,44 @@ part-detector-run-end : tie.Need-slice_bounds-detector_run-end
 part-detector-run-end c = search rules
 
 mul-detector-run-2 : tie.Need-offset_bounds-g-begin
-mul-detector-run-2 c = let b = c.before in record { fits = omega (arith, short b, in_row b, in-line b, starts b, stops b, ordered b) }
+mul-detector-run-2 c = let b = c.before.before in record { fits = omega (arith, short b, in_row b, in-line b, starts b, stops b, ordered b) }
 
 sub-detector-run-2 : tie.Need-slice_bounds-detector_run-count-2
-sub-detector-run-2 c = ordered c.before
+sub-detector-run-2 c = ordered c.before.before
 
 part-detector-run-start-2 : tie.Need-slice_bounds-detector_run-start-2
-part-detector-run-start-2 c = ordered c.before
+part-detector-run-start-2 c = ordered c.before.before
 
 part-detector-run-end-2 : tie.Need-slice_bounds-detector_run-end-2
-part-detector-run-end-2 c = let b = c.before in omega (arith, stops b, in_row b, (lent b).long-g)
+part-detector-run-end-2 c = let b = c.before.before in omega (arith, stops b, in_row b, (lent b).long-g)
 
 mul-detector-run-3 : tie.Need-offset_bounds-i-begin_at
-mul-detector-run-3 c = let b = c.before.before in record { fits = omega (arith, short b, in_row b, in-line b, starts b, stops b, ordered b) }
+mul-detector-run-3 c = let b = c.before.before.before in record { fits = omega (arith, short b, in_row b, in-line b, starts b, stops b, ordered b) }
 
 sub-detector-run-3 : tie.Need-slice_bounds-detector_run-count-3
-sub-detector-run-3 c = let b = c.before.before in omega (arith, ordered b)
+sub-detector-run-3 c = let b = c.before.before.before in omega (arith, ordered b)
 
 part-detector-run-start-3 : tie.Need-slice_bounds-detector_run-start-3
-part-detector-run-start-3 c = let b = c.before.before in omega (arith, ordered b)
+part-detector-run-start-3 c = let b = c.before.before.before in omega (arith, ordered b)
 
 part-detector-run-end-3 : tie.Need-slice_bounds-detector_run-end-3
-part-detector-run-end-3 c = let b = c.before.before in omega (arith, starts b, stops b, in-line b, short b, (lent b).line.long-i)
+part-detector-run-end-3 c = let b = c.before.before.before in omega (arith, starts b, stops b, in-line b, short b, (lent b).line.long-i)
 
 mul-detector-run-4 : tie.Need-offset_bounds-q-begin_at
-mul-detector-run-4 c = let b = c.before.before.before in record { fits = omega (arith, short b, in_row b, in-line b, starts b, stops b, ordered b) }
+mul-detector-run-4 c = let b = c.before.before.before.before in record { fits = omega (arith, short b, in_row b, in-line b, starts b, stops b, ordered b) }
 
 sub-detector-run-4 : tie.Need-slice_bounds-detector_run-count-4
-sub-detector-run-4 c = let b = c.before.before.before in omega (arith, ordered b)
+sub-detector-run-4 c = let b = c.before.before.before.before in omega (arith, ordered b)
 
 part-detector-run-start-4 : tie.Need-slice_bounds-detector_run-start-4
-part-detector-run-start-4 c = let b = c.before.before.before in omega (arith, ordered b)
+part-detector-run-start-4 c = let b = c.before.before.before.before in omega (arith, ordered b)
 
 part-detector-run-end-4 : tie.Need-slice_bounds-detector_run-end-4
-part-detector-run-end-4 c = let b = c.before.before.before in omega (arith, starts b, stops b, in-line b, short b, (lent b).line.long-q)
+part-detector-run-end-4 c = let b = c.before.before.before.before in omega (arith, starts b, stops b, in-line b, short b, (lent b).line.long-q)
 
 detector-run-requires : tie.Need-detector_run-detected-requires
 detector-run-requires c κs =
-    let b = c.before.before.before.before in
+    let b = c.before.before.before.before.before in
     let n = end b - begin b in (
       (
         row-take n (row_drop (begin b) (lent b).row-h),
@@ -235,7 +235,7 @@ part-output-run-start-2 : tie.Need-slice_bounds-output_run-start-2
 part-output-run-start-2 c = search rules
 
 part-output-run-end-2 : tie.Need-slice_bounds-output_run-end-2
-part-output-run-end-2 c = let b = c.before.before.before.before.before.before in omega (arith, in-line b, short b, (lent b).line.long-i)
+part-output-run-end-2 c = let b = c.before.before.before.before.before.before.before.before in omega (arith, in-line b, short b, (lent b).line.long-i)
 
 mul-output-run-3 : tie.Need-offset_bounds-q-place
 mul-output-run-3 c = search rules
@@ -247,19 +247,19 @@ part-output-run-start-3 : tie.Need-slice_bounds-output_run-start-3
 part-output-run-start-3 c = search rules
 
 part-output-run-end-3 : tie.Need-slice_bounds-output_run-end-3
-part-output-run-end-3 c = let b = c.before.before.before.before.before.before.before in omega (arith, in-line b, short b, (lent b).line.long-q)
+part-output-run-end-3 c = let b = c.before.before.before.before.before.before.before.before.before in omega (arith, in-line b, short b, (lent b).line.long-q)
 
 output-run-requires : tie.Need-output_run-requires
 output-run-requires c κs =
-    let b = c.before.before.before.before.before.before.before.before in (
+    let b = c.before.before.before.before.before.before.before.before.before.before in (
       rw (all-to b) (row-take (count b) (row_drop (from b) (lent b).row-k)),
       (rw (all-to b, all_end b, run_long b) (run-beside b), (start b).requires.0.1.output),
     )
 
 returns : tie.Need-returns
 returns c =
-    let r = c.before.before.before.before in
-    let b = r.before.before.before.before.before in
+    let r = c.before.before.before.before.before in
+    let b = r.before.before.before.before.before.before in
     let d = r.detector_run-detected.ensures in
     let o = c.output_run.ensures in
     let before = (start b).args.before in

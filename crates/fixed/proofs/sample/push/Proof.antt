@@ -164,8 +164,8 @@ module _ (c : tie.After-struct_told-5-1) where
 
 with-symbol-requires : tie.Need-with_symbol-requires
 with-symbol-requires c κs =
-    let d = c.before.before.before.before.before in
-    (ready-now d, c.if1.true)
+    let d = c.before.before.before in
+    (ready-now d, c.if-r-lt16777216.true)
 
 same_length : tie.Need-shape_of-i-then-r-lt16777216
 same_length c = search rules
@@ -182,8 +182,8 @@ same-length-4 c = search rules
 returns : tie.Need-returns-then-r-lt16777216
 returns c =
     let w = c.before.before in
-    let d = w.before.before.before.before.before.before in
-    let test = w.if1.true in
+    let d = w.before.before.before.before in
+    let test = w.if-r-lt16777216.true in
     let made = w.with_symbol.ensures.0 in
     let makes = w.with_symbol.ensures.1 in
     let z : Kept =

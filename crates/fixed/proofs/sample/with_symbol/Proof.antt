@@ -62,7 +62,7 @@ cast-phase c =
 
 oldest-requires : tie.Need-oldest-oldest-requires
 oldest-requires c κs =
-    let b = c.before.before.before.before.before.before in
+    let b = c.before.before.before.before in
     ((b.requires.0.begun.long-e, b.requires.0.begun.long-err), omega (arith, (going-at b).oldest))
 
 is-due-requires : tie.Need-is_due-requires
@@ -75,7 +75,7 @@ after-symbol-requires c κs = search rules
 
 module _ (c : tie.After-after_symbol-stepped) where
   abbrev at : tie.Start
-  at = c.before.before.before.before.before.before.before.before.before
+  at = c.before.before.before.before.before.before.before
 
   stepped : c.after_symbol-stepped.result ≡ record { registers = left (due_in at.args.p (x at)); made = true }
   stepped =
