@@ -46,7 +46,7 @@ mul-t12 c = search rules
 shared-slice-copy-out-t14 : tie.Need-bounds-numbers-n-in-loop-n invariant-loop decreases-loop
 shared-slice-copy-out-t14 c = omega arith
 
-mul-line : tie.Need-overflow_mul-line invariant-loop decreases-loop
+mul-line : tie.Need-offset_bounds-line-n invariant-loop decreases-loop
 mul-line c = search rules
 
 array-set-from-line : tie.Need-bounds-line-n invariant-loop decreases-loop

@@ -46,7 +46,7 @@ mul-t12 c = search rules
 shared-slice-copy-out-t14 : tie.Need-bounds-numbers-n-in-loop-n invariant-loop decreases-loop
 shared-slice-copy-out-t14 c = omega arith
 
-mul-pending : tie.Need-overflow_mul-pending invariant-loop decreases-loop
+mul-pending : tie.Need-offset_bounds-pending-n invariant-loop decreases-loop
 mul-pending c = search rules
 
 array-set-from-pending : tie.Need-bounds-pending-n invariant-loop decreases-loop
