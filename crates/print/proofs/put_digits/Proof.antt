@@ -112,7 +112,7 @@ same_length c = simp length-set (omega arith)
 returns : tie.Need-returns-then-i-gt0 invariant-loop decreases-loop
 returns c =
     let l = c.before.before.before.loop-i in
-    let w = c.before.before.before.before.width in
+    let w = c.before.before.before.before.width-k in
     let a = c.before.before.before.before.before.before.args in
     let z : l.i ≡ 1 = omega arith in (
       put a.n w.result a.at a.out.now (set l.out a.at c.glyph-then-i-gt0.result) w.ensures.0
@@ -129,7 +129,7 @@ same-length-2 c = omega arith
 returns-2 : tie.Need-returns invariant-loop decreases-loop
 returns-2 c =
     let l = c.before.before.loop-i in
-    let w = c.before.before.before.width in
+    let w = c.before.before.before.width-k in
     let a = c.before.before.before.before.before.args in
     let z : l.i ≡ 0 = omega arith in
     (put a.n w.result a.at a.out.now l.out w.ensures.0 (l.invariant.2 ∙ none_left l.out a.at l.i l.v z), omega arith)

@@ -28,17 +28,11 @@ returns-2 c =
     let a = c.before.before.before.args in
     W.nothing_put 70 a.at a.out.now (end_of a.samples a.symbols a.t) (omega arith)
 
-slice-aggregate-put-bytes : tie.Need-slice-aggregate-put-bytes
-slice-aggregate-put-bytes c = search rules
-
 put-bytes-requires : tie.Need-put_bytes-p-requires
 put-bytes-requires c κs = search rules
 
 put-digits-requires : tie.Need-put_digits-p-requires
 put-digits-requires c κs = search rules
-
-slice-aggregate-put-bytes-2 : tie.Need-slice-aggregate-put-bytes-2
-slice-aggregate-put-bytes-2 c = search rules
 
 put-bytes-requires-2 : tie.Need-put_bytes-p-requires-2
 put-bytes-requires-2 c κs = search rules
@@ -46,17 +40,11 @@ put-bytes-requires-2 c κs = search rules
 put-digits-requires-2 : tie.Need-put_digits-p-requires-2
 put-digits-requires-2 c κs = search rules
 
-slice-aggregate-put-bytes-3 : tie.Need-slice-aggregate-put-bytes-3
-slice-aggregate-put-bytes-3 c = search rules
-
 put-bytes-requires-3 : tie.Need-put_bytes-p-requires-3
 put-bytes-requires-3 c κs = search rules
 
 put-number-requires : tie.Need-put_number-p-requires
 put-number-requires c κs = search rules
-
-slice-aggregate-put-bytes-4 : tie.Need-slice-aggregate-put-bytes-4
-slice-aggregate-put-bytes-4 c = search rules
 
 put-bytes-requires-4 : tie.Need-put_bytes-requires
 put-bytes-requires-4 c κs = search rules
@@ -94,16 +82,12 @@ put_end_spec =
     returns
     sub-if2
     returns-2
-    slice-aggregate-put-bytes
     put-bytes-requires
     put-digits-requires
-    slice-aggregate-put-bytes-2
     put-bytes-requires-2
     put-digits-requires-2
-    slice-aggregate-put-bytes-3
     put-bytes-requires-3
     put-number-requires
-    slice-aggregate-put-bytes-4
     put-bytes-requires-4
     same_length
     returns-3)

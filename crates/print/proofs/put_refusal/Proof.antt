@@ -24,26 +24,17 @@ returns-2 c =
     let a = c.before.before.before.args in
     W.nothing_put 52 a.at a.out.now (refused_of a.number a.line) (omega arith)
 
-slice-aggregate-put-bytes : tie.Need-slice-aggregate-put-bytes
-slice-aggregate-put-bytes c = search rules
-
 put-bytes-requires : tie.Need-put_bytes-p-requires
 put-bytes-requires c κs = search rules
 
 put-digits-requires : tie.Need-put_digits-p-requires
 put-digits-requires c κs = search rules
 
-slice-aggregate-put-bytes-2 : tie.Need-slice-aggregate-put-bytes-2
-slice-aggregate-put-bytes-2 c = search rules
-
 put-bytes-requires-2 : tie.Need-put_bytes-p-requires-2
 put-bytes-requires-2 c κs = search rules
 
 put-digits-requires-2 : tie.Need-put_digits-p-requires-2
 put-digits-requires-2 c κs = search rules
-
-slice-aggregate-put-bytes-3 : tie.Need-slice-aggregate-put-bytes-3
-slice-aggregate-put-bytes-3 c = search rules
 
 put-bytes-requires-3 : tie.Need-put_bytes-requires
 put-bytes-requires-3 c κs = search rules
@@ -74,13 +65,10 @@ put_refusal_spec =
     returns
     sub-if2
     returns-2
-    slice-aggregate-put-bytes
     put-bytes-requires
     put-digits-requires
-    slice-aggregate-put-bytes-2
     put-bytes-requires-2
     put-digits-requires-2
-    slice-aggregate-put-bytes-3
     put-bytes-requires-3
     same_length
     returns-3)
