@@ -1,9 +1,10 @@
 -- `rows::Cursor::row` meets its contract: what the bytes from here on leave is what those behind the next byte leave, once that byte is read (Reading).
 -- A turn goes one byte on, none begins at the end of the piece, and the row keeps its length, whatever is stored in it.
-use Rattle.std.proofs.Common.{◌≡◌, ◌+◌, ◌-◌, ◌≤◌, max, true, cond, [], length, get_or, drop, sym, refl, ap, ◌∙◌, ⊎_elim, arith, length-set, drop_of_length-le, rules, eq-eqb, ne_eqb}
+use Rattle.std.proofs.Common.{◌≡◌, ◌+◌, ◌-◌, ◌≤◌, max, true, cond, [], length, get_or, drop, sym, refl, ap, ◌∙◌, arith, length-set, drop_of_length-le, rules, eq-eqb, ne_eqb}
 use Rattle.rows.specs.Rows.{signed_value, ends_number, read, with_bytes, row_read}
 use Rattle.rows.proofs.Reading.{within, row_ends, number-ends, goes_on, none_left}
 use Rattle.rows.proofs.Cursor.row.Statement.{statement}
+use Rattle.rows.proofs.Cursor.row.Lts.{then-self, else-self}
 use Rattle.rows.proofs.Cursor.row.Tie as tie
 
 abbrev invariant-loop : tie.invariant-loop-at
@@ -23,7 +24,7 @@ unfolding row_read
 begins c =
     let a = c.before.before.before.before.args in
     let column : c.before.if-self.column ≡ cond a.self.ended 0 a.self.column =
-    ⊎_elim (λ w. simp w.0.taken w.1) (λ w. simp w.0.left w.1) c.before.if-self.branch in
+    elim c.before.if-self.branch [ then-self w ↦ simp w.if-self.true w.column-is | else-self w ↦ simp w.if-self.false w.column-is ] in
     λ i. with_bytes (read (within a.self.at (sym column i) a.self.number) a.row.now) (drop a.self.at a.bytes.now)
 
 -- behind a number that has ended: where the turn began, and the test of the byte
