@@ -156,7 +156,7 @@ returns-2 c =
     let all : length a.kinds.now ≤ e.n + 1 = omega (arith, c.before.if-n-kinds.true) in
     let left = P.left-whole a.kinds.now s a.out.now o.before.put_value.new.out (e.n + 1)
     o.before.before.before.before.larger-fault.result (with-field o [] ps) all in
-    subst (λ (r : ℕ). Reading a.kinds.now s a.out.now r o.before.put_value.new.out) (sym c.number_of_lem.ensures) left
+    subst (λ (r : ℕ). Reading a.kinds.now s a.out.now r o.before.put_value.new.out) (sym c.number_of.ensures) left
 
 same-length-3 : tie.Need-shape_of-out-then-end-s invariant-loop decreases-loop
 same-length-3 c = c.before.before.before.put_value.auto.out ∙ (loop-of c.before.before).loop-n.invariant.0
