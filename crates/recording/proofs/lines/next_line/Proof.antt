@@ -24,21 +24,21 @@ returns : tie.Need-returns-then-over
 unfolding next_of
 returns c =
     let arm = c.before.before in
-    simp (sym arm.before.before.line_end.ensures ∙ arm.enum_told-in-Open-1.given.1, c.before.if-over.true) c.end.ensures
+    simp (sym arm.before.line_end.ensures ∙ arm.in-Open.is, c.before.if-over.true) c.end.ensures
 
 returns-2 : tie.Need-returns-in-After
 unfolding next_of
-returns-2 c = simp (sym c.before.before.before.line_end.ensures ∙ c.before.n-1.given.1)
+returns-2 c = simp (sym c.before.line_end.ensures ∙ c.in-After.is)
 
 returns-3 : tie.Need-returns-in-TooLong
 unfolding next_of
-returns-3 c = simp (sym c.before.before.line_end.ensures ∙ c.enum_told-1.given.1)
+returns-3 c = simp (sym c.before.line_end.ensures ∙ c.in-TooLong.is)
 
 returns-4 : tie.Need-returns-else-over
 unfolding next_of
 returns-4 c =
     let arm = c.before in
-    simp (sym arm.before.before.line_end.ensures ∙ arm.enum_told-in-Open-1.given.1, c.if-over.false)
+    simp (sym arm.before.line_end.ensures ∙ arm.in-Open.is, c.if-over.false)
 
 pub next_line_spec : {M : Type 1} → statement M
 next_line_spec =
