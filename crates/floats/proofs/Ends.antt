@@ -1,5 +1,5 @@
 -- The ends -2^h and 2^h of a signed range: what a float's tests against them say of its size, and what a cast to h bits and a sign makes of it.
-use Rattle.std.proofs.Common.{◌≡◌, ℕ, suc, ◌+◌, ◌-◌, ◌*◌, ◌/◌, ◌^◌, ◌<◌, ◌≤◌, min, Bool, true, false, not, ◌||◌, T, ltb, ℤ, pos, negsuc, neg_ℤ, sym, refl, ap, ◌∙◌, le_of_eq, lt_of_lt_of_le, lt_of_le_of_lt, le_of_lt, div-lt_iff_lt-mul, lt_of_mul-lt-mul_right, mul-lt-mul_of_pos_right, mul-pos, one-mul, le-div_iff_mul-le, zero-mul, mul-one, mul_right_comm, arith, ltb→lt, lt→ltb, nltb→le, pow_pos}
+use Rattle.std.proofs.Common.{◌≡◌, ℕ, zero, suc, ◌+◌, ◌-◌, ◌*◌, ◌/◌, ◌^◌, ◌<◌, ◌≤◌, min, Bool, true, false, not, ◌||◌, T, ltb, ℤ, pos, negsuc, neg_ℤ, sym, refl, ap, ◌∙◌, le_of_eq, lt_of_lt_of_le, lt_of_le_of_lt, le_of_lt, div-lt_iff_lt-mul, lt_of_mul-lt-mul_right, mul-lt-mul_of_pos_right, mul-pos, one-mul, le-div_iff_mul-le, zero-mul, mul-one, mul_right_comm, arith, ltb→lt, lt→ltb, nltb→le, pow_pos}
 use native.Mathlib.Nat.{min-eq_left, min-eq_right}
 use lib.Ieee.{Float, nan, inf, fin, up, down, lt, eq, le, to_signed}
 use lib.Ieee.Fits.{down_pos}
@@ -19,6 +19,7 @@ lt-le x y t = go (lt x y) (eq x y) t
   where
     go : (a b : Bool) → T a → T (a || b)
     go true b t = tt
+    go false b t = elim t [ ]
 
 not-lt : (x y : Float) → T (not (le x y)) → T (not (lt x y))
 unfolding le
@@ -72,6 +73,7 @@ least : (h : ℕ) → negsuc (2 ^ h - 1) ≡ neg_ℤ (pos (2 ^ h))
 least h = go (2 ^ h) (pow_pos h)
   where
     go : (n : ℕ) → 0 < n → negsuc (n - 1) ≡ neg_ℤ (pos n)
+    go zero p = elim p [ ]
     go (suc n) p = ap negsuc (omega arith)
 
 pub cut-above : (h : ℕ) (x : Float) → T (le (bottom h) x) → T (not (lt x (top h))) → pos (2 ^ h - 1) ≡ to_signed h x

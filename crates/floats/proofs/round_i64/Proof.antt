@@ -1,11 +1,9 @@
 -- `floats::round_i64` meets its contract: below 2^62 in size twice the float is exact and within the range of the cast, and the half of its whole part, taken
 -- away from zero, is the nearest whole number (Rounded). All else is whole or no number, so cutting and rounding are the same.
-use Rattle.std.proofs.Common.{◌≡◌, T, sym, ◌∙◌, subst, lit<, to_z-of_z, w64, to_z, of_z, rules}
-use lib.Ieee.{of_bits, neg, lt}
-use borrow.Author.Tests.{not-false}
+use Rattle.std.proofs.Common.{◌≡◌, Bool, not, T, sym, ◌∙◌, subst, lit<, to_z-of_z, w64, to_z, of_z, rules}
+use lib.Ieee.{of_bits, neg}
 use Rattle.arith.proofs.Bits.{held}
 use Rattle.arith.proofs.Signs.{signed}
-use Rattle.floats.proofs.Ends.{top, bottom}
 use Rattle.floats.proofs.Rounded.{Halved, halved_of, quotient_fits, half_of, half-fits, stays-above, stays-below}
 use Rattle.floats.proofs.round_i64.Statement.{statement}
 use Rattle.floats.proofs.round_i64.Tie as tie
@@ -21,7 +19,7 @@ returns c =
     let s = c.before.before in
     held w64 c.cut_i64.result c.cut_i64.type_inv
     ∙ c.cut_i64.ensures
-    ∙ stays-below s.args.x (subst T (sym s.well-formed.0.1) tt) (subst T (sym c.before.if-not-x.true) tt)
+    ∙ stays-below s.args.x (subst T (sym s.well_formed.0.1) tt) (subst (λ (b : Bool). T (not b)) (sym c.before.if-not-x.true) tt)
 
 cut-i64-requires-2 : tie.Need-cut_i64-requires-then-not-x-2
 cut-i64-requires-2 c κs = search rules
@@ -32,7 +30,7 @@ returns-2 c =
     let s = c.before.before.before in
     held w64 c.cut_i64-then-not-x-2.result c.cut_i64-then-not-x-2.type_inv
     ∙ c.cut_i64-then-not-x-2.ensures
-    ∙ stays-above s.args.x (subst T (sym s.well-formed.0.1) tt) (subst T (sym c.before.if-not-x-2.true) tt)
+    ∙ stays-above s.args.x (subst T (sym s.well_formed.0.1) tt) (subst (λ (b : Bool). T (not b)) (sym c.before.if-not-x-2.true) tt)
 
 -- ---- between -2^62 and 2^62
 
@@ -42,8 +40,8 @@ unfolding of_bits neg
 halved c =
     let s = c.before.before in
     let x = s.args.x in
-    halved_of x (subst T (sym s.well-formed.0.1) tt) (subst T (sym (not-false (lt (bottom 62) x) c.before.if-not-x.false)) tt)
-    (subst T (sym (not-false (lt x (top 62)) c.if-not-x-2.false)) tt)
+    halved_of x (subst T (sym s.well_formed.0.1) tt) (subst T (sym c.before.if-not-x.false) tt)
+    (subst T (sym c.if-not-x-2.false) tt)
 
 truncating-f64-to-i64-requires : tie.Need-truncating_f64_to_i64-twice-requires
 truncating-f64-to-i64-requires c κs = ((halved c).doubled.low, (halved c).doubled.high)
