@@ -1,5 +1,5 @@
 # make run       the main job, on the stored input
-# make test      the gate: all proofs, must-fail edits and programs from nothing, then the symbol program's cases
+# make test      the gate: all proofs, must-fail edits and programs, then the symbol program's cases
 # make symbols   proves and links the symbol program, target/bin/symbols
 # make cases     runs the symbol program on small inputs, refused and malformed ones among them, and the gate on stand-ins for rt
 # make oracle    compares this code with the Rust front end of isdb-rs
@@ -10,17 +10,18 @@
 # make clean     removes all that was made
 #
 # Needed: the Rattle kit (its command rt) and a POSIX shell; for `make oracle` and `make bench` cargo, and the sources of isdb-rs at ISDB_RS; for
-# `make examples` and `make bindings` a C compiler and cargo. A crate is reported as it is proved; all that rt says is in target/*.out.
+# `make examples` and `make bindings` a C compiler and cargo. A crate is reported as it is proved; all that rt says is in target/*.out. rt keeps its own work in
+# crates/*/out/, so that a later run proves what has changed.
 RT ?= rt
 ISDB_RS ?= ../shared/docs/src
 
 .PHONY: run test symbols cases oracle archive bench examples bindings clean kit
-# The kit writes to one folder, so one thing is made after another.
+# What several targets stand on is made in the same folders, so one thing is made after another.
 .NOTPARALLEL:
 
 run: kit
 	@echo "Proving and linking the symbol program, the replay programs and what they stand on (some minutes from nothing) .."
-	@RT='$(RT)' sh tools/prove.sh target/run.out check symbols replay_leaves replay_calls replay_floats
+	@RT='$(RT)' sh tools/prove.sh target/run.out symbols replay_leaves replay_calls replay_floats
 	@echo "The symbols of crates/symbols/stdin, a sheet, its banks and three pairs:"
 	@target/bin/symbols <crates/symbols/stdin
 	@echo "Replaying the answers of isdb-rs and of the oracle's reading of the rules, crates/replay_*/stdin:"
@@ -33,7 +34,7 @@ test: kit
 
 symbols: kit
 	@echo "Proving and linking the symbol program and what it stands on, as target/bin/symbols .."
-	@RT='$(RT)' sh tools/prove.sh target/symbols.out check symbols
+	@RT='$(RT)' sh tools/prove.sh target/symbols.out symbols
 
 cases: symbols
 	@sh tests/symbols.sh target/bin/symbols
@@ -66,7 +67,7 @@ bindings: archive
 	@cd bindings/rust && HUNTELM_ARCHIVE='$(CURDIR)/target/staticlib' cargo test --offline --quiet
 
 clean:
-	rm -rf target oracle/target oracle/archive/target bench/target bindings/rust/target
+	rm -rf target crates/*/out oracle/target oracle/archive/target bench/target bindings/rust/target
 
 kit:
 	@command -v $(RT) >/dev/null || \

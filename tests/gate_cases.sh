@@ -7,8 +7,12 @@ dir=$(mktemp -d) || exit 2
 trap 'rm -rf "$dir"' EXIT
 cases=0
 wrong=0
-mkdir "$dir/tests"
+mkdir "$dir/tests" "$dir/tools"
 cp tests/gate.sh "$dir/tests"
+cp tools/made.sh "$dir/tools"
+mkdir -p "$dir/crates/symbols/src"
+: >"$dir/crates/symbols/src/main.rt"
+: >"$dir/crates.txt"
 cat >"$dir/rt" <<END
 #!/bin/sh
 cd "$dir" || exit 2
@@ -16,9 +20,10 @@ cd "$dir" || exit 2
 END
 chmod +x "$dir/rt"
 
-# gate NAME STATUS LAST: fmt, ci and tests/symbols.sh are in $dir; the gate has to end with this status and print this line last
+# gate NAME STATUS LAST: version, ci and tests/symbols.sh are in $dir, and no program; the gate has to end with this status and print this line last
 gate() {
     cases=$((cases + 1))
+    rm -rf "$dir/crates/symbols/out" "$dir/target"
     RT=$dir/rt sh "$dir/tests/gate.sh" >"$dir/out" 2>&1
     ended=$?
     if [ $ended -eq "$2" ] && [ "$(tail -n 1 "$dir/out")" = "$3" ]; then return; fi
@@ -34,13 +39,17 @@ shows() {
     echo "wrong: $1: no line '$2'"
 }
 
-: >"$dir/fmt"
-good='rm -rf target; echo "rt: a proved (1 s)"; echo "rt: ok, 1 crates proved"; echo "8 passed, 0 failed"'
+# What rt ci does where all is well: it is given no words, builds the program, and says among its lines how many edits were refused and how many are bad.
+echo 'echo kit' >"$dir/version"
+built='[ $# -eq 1 ] || exit 2; mkdir -p crates/symbols/out; echo it >crates/symbols/out/symbols; echo "rt: a proved"'
+ok='rt: ok; handles allowed: none; must-fail edits: 5 refused'
+rest='every proof and must-fail edit was done in this run'
+good="$built; echo '$ok; $rest'; echo '8 passed, 0 failed'"
 echo "$good" >"$dir/ci"
-echo 'echo "3 cases, 0 wrong of $1"' >"$dir/tests/symbols.sh"
+echo 'echo "3 cases, 0 wrong of $1: $(cat "$1")"' >"$dir/tests/symbols.sh"
 gate 'all is well' 0 '8 passed, 0 failed'
-shows 'what rt said' '^rt: ok, 1 crates proved$'
-shows 'the cases' '^3 cases, 0 wrong of target/bin/symbols$'
+shows 'what rt said' "^$ok; $rest\$"
+shows 'the cases' '^3 cases, 0 wrong of target/bin/symbols: it$'
 cases=$((cases + 1))
 if [ "$(grep -c passed "$dir/out")" -ne 1 ]; then
     wrong=$((wrong + 1))
@@ -59,28 +68,49 @@ echo 'echo "rt: FAILED: a b"; echo "6 passed, 2 failed"; exit 1' >"$dir/ci"
 gate 'rt ci fails' 1 '6 passed, 2 failed'
 echo 'echo "6 passed, 2 failed"; exit 2' >"$dir/ci"
 gate 'rt ci fails by itself' 2 '6 passed, 2 failed'
-echo 'echo "rt: a proved (1 s)"; printf "rt: b pro"; kill -9 $$' >"$dir/ci"
+echo 'echo "rt: a proved"; printf "rt: b pro"; kill -9 $$' >"$dir/ci"
 gate 'rt ci is killed' 137 '0 passed, 1 failed'
 shows 'half a line' '^rt: b pro$'
 echo 'echo "rt: no crates.txt" >&2; exit 2' >"$dir/ci"
 gate 'rt ci says nothing' 2 '0 passed, 1 failed'
-echo 'echo "rt: a proved (1 s)"' >"$dir/ci"
+echo 'echo "rt: a proved"' >"$dir/ci"
 gate 'rt ci has no last line' 1 '0 passed, 1 failed'
 echo "$good; echo more" >"$dir/ci"
 gate 'rt ci goes on after its last line' 1 '0 passed, 1 failed'
 shows 'a line that was not the last' '^8 passed, 0 failed$'
 echo "$good; exit 1" >"$dir/ci"
 gate 'rt ci counts no failure, and fails' 1 '8 passed, 1 failed'
-echo "$good" >"$dir/ci"
-echo 'echo a.rt; exit 1' >"$dir/fmt"
-gate 'a file is not in the layout' 1 '0 passed, 1 failed'
-: >"$dir/fmt"
+echo "echo '$ok; $rest'; echo '8 passed, 0 failed'" >"$dir/ci"
+gate 'rt ci leaves no program' 1 '8 passed, 1 failed'
+
+# said LINE: rt ci passes, and this is its line on the edits
+said() {
+    echo "$built; echo '$1'; echo '8 passed, 0 failed'" >"$dir/ci"
+}
+said "$ok, 1 bad; $rest"
+gate 'an edit is bad' 1 '8 passed, 1 failed'
+shows 'how many are bad' '^gate: bad must-fail edits: 1$'
+said "$ok, 2 of them only by a limit, 12 bad; $rest"
+gate 'edits are bad' 1 '8 passed, 12 failed'
+said "$ok, 3 bad"
+gate 'edits are bad, and nothing else is said' 1 '8 passed, 3 failed'
+said "$ok, 2 of them only by a limit; $rest"
+gate 'an edit is refused by a limit' 0 '8 passed, 0 failed'
+said "$ok, 0 bad; $rest"
+gate 'no edit is bad, and it is said' 0 '8 passed, 0 failed'
+said "rt: ok; handles allowed: none; $rest"
+gate 'there is no edit' 0 '8 passed, 0 failed'
+said 'rt: passed'
+gate 'rt ci does not say that it is ok' 1 '8 passed, 1 failed'
 
 # Lines come while rt ci runs: it goes on, for ten seconds at most, once its first line has come through the gate and a pipe.
 cat >"$dir/ci" <<'END'
-echo "rt: a proved (1 s)"
+echo "rt: a proved"
 n=0
 while [ ! -e seen ] && [ $n -lt 10 ]; do sleep 1; n=$((n + 1)); done
+mkdir -p crates/symbols/out
+: >crates/symbols/out/symbols
+echo "rt: ok; handles allowed: none; must-fail edits: 5 refused"
 if [ -e seen ]; then echo "8 passed, 0 failed"; else echo "7 passed, 1 failed"; exit 1; fi
 END
 cases=$((cases + 1))
@@ -95,7 +125,7 @@ fi
 
 # The gate is stopped: so is rt ci.
 rm "$dir/out"
-echo 'echo $$ >pid; echo "rt: a proved (1 s)"; while :; do sleep 1; done' >"$dir/ci"
+echo 'echo $$ >pid; echo "rt: a proved"; while :; do sleep 1; done' >"$dir/ci"
 cases=$((cases + 1))
 RT=$dir/rt sh "$dir/tests/gate.sh" >"$dir/out" &
 gate=$!
