@@ -35,7 +35,7 @@ for delay in $shorter; do
     (cd oracle && LOOP_DELAY=$delay cargo build --offline --quiet --profile delay --target-dir "target/delay-$delay")
 done
 echo "oracle: proving and linking the replay programs, the symbol program and the archive .."
-sh tools/prove.sh "$work/check.out" check replay_leaves replay_calls replay_floats symbols
+sh tools/prove.sh "$work/check.out" replay_leaves replay_calls replay_floats symbols
 sh tools/archive.sh
 (cd oracle/archive && cargo build --offline --quiet --release)
 rust=oracle/target/release/oracle

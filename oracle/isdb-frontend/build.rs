@@ -1,12 +1,14 @@
-//! Lays the five files of isdb-rs out for the compiler: symbolic links to them, and an empty module for each of
-//! the others that their lib.rs names. Nothing is copied, and nothing is changed, but for one number: where `LOOP_DELAY`
-//! asks for another delay than isdb-rs has, params.rs is written with that constant set to it.
+//! Lays the five files of isdb-rs out for the compiler, in cargo's target folder: copies of them, and an empty module for
+//! each of the others that their lib.rs names. Nothing is changed but for one number: where `LOOP_DELAY` asks for another
+//! delay than isdb-rs has, params.rs is written with that constant set to it.
+//!
+//! They are copies and not links, since the gate refuses a checkout that has a link anywhere.
 //!
 //! `ISDB_RS` is the path to isdb-rs, ../shared/docs/src beside this repository if it is not set. `LOOP_DELAY` is a number
 //! from 1 to 24, and 24 if it is not set.
 
 use std::path::{Path, PathBuf};
-use std::{env, fs, os::unix::fs::symlink};
+use std::{env, fs};
 
 /// The files that are compiled.
 const TAKEN: [&str; 5] = ["lib.rs", "fixed.rs", "tables.rs", "params.rs", "float.rs"];
@@ -42,7 +44,7 @@ fn main() {
         let (from, to) = (source.join(name), stage.join(name));
         match delay {
             Some(delay) if name == PARAMS => write_with_delay(&from, &to, delay),
-            _ => link(&from, &to),
+            _ => copy(&from, &to),
         }
     }
     let lib = fs::read_to_string(source.join("lib.rs")).unwrap();
@@ -80,9 +82,9 @@ fn delay() -> Option<u8> {
     }
 }
 
-fn link(from: &Path, to: &Path) {
-    let from = found(from);
-    symlink(&from, to).unwrap_or_else(|e| panic!("{}: {e}", to.display()));
+fn copy(from: &Path, to: &Path) {
+    let text = fs::read(found(from)).unwrap();
+    fs::write(to, text).unwrap_or_else(|e| panic!("{}: {e}", to.display()));
 }
 
 /// The file with one line of it changed, which has to be there once.
