@@ -29,7 +29,7 @@ use Rattle.symbol.specs.Places.{places_of}
 use Rattle.symbol.specs.Make.{symbol_from}
 use Rattle.fixed.specs.Sample.{symbol_of, joined, falls, next, made_by}
 use Rattle.fixed.specs.Block.{flattened, clips_of}
-use Rattle.timing.specs.Lists.{Call, block, commit, commits, KeepTo}
+use Rattle.timing.specs.Lists.{Call, block, commit, state_by, taken_by, commits, KeepTo}
 use Rattle.timing.specs.Lists.{start_state, samples_of, end_state, places_written, symbol_count, clip_count, commits_of, KeepsToItsSheets}
 use Rattle.timing.specs.Timing.{place_at, sample_at, phase_at, gain_at, period_at, periods_before, Whole, Place, Apart, Rest, AgreeUpTo, up_to, Delayed, SameRun}
 use Rattle.timing.specs.Timing.{SameTiming, TimingHolds, AlikeAhead, Plain, WithoutCommits}
@@ -506,13 +506,15 @@ module _ (s : Sheet) where
   plain-keeps : (f : Frontend) (cs : List Call) → Plain s cs → KeepTo s f cs
   unfolding KeepTo
   plain-keeps f [] p = tt
-  plain-keeps f (block t values out ∷ cs) p = (λ e. p.0, plain-keeps _ cs p.1)
+  plain-keeps f (block t values out ∷ cs) p = (λ e. p.0, plain-keeps (state_by f (block t values out)) cs p.1)
   plain-keeps f (commit t ticket ∷ cs) p = absurd p
 
   plain-none : (n : ℕ) (f : Frontend) (cs : List Call) → Plain s cs → commits n f cs ≡ []
   unfolding commits
   plain-none n f [] p = refl
-  plain-none n f (block t values out ∷ cs) p = plain-none _ _ cs p.1
+  plain-none n f (block t values out ∷ cs) p =
+      let c : Call = block t values out in
+      plain-none (n + length (taken_by f c)) (state_by f c) cs p.1
   plain-none n f (commit t ticket ∷ cs) p = absurd p
 
 pub without-commits : WithoutCommits
