@@ -59,32 +59,28 @@ numbered c is = c.number-number.ensures ∙ ap (λ (e : ParamError). (error_refu
 
 returns : tie.Need-returns-in-Coefficient
 returns c =
-    let known = c.before.before.before in
-    let x = known.e-1.given in
-    let value = x.0.1.1.0 in
-    let wide : c.before.wide.result ≡ value = simp (held w32 value (search c.before.before.known_told-1.given depth 40)) at c.before.wide.ensures in
+    let x = c.in-Coefficient in
+    let wide : c.before.wide.result ≡ x.value = simp (held w32 x.value (search x.known_told-1-own.given depth 40)) at c.before.wide.ensures in
     let row = simp (held w64 c.before.wide.result c.before.wide.type_inv) at c.of_row.ensures in
-    row ∙ (λ i. carries_three (numbered known.before.before x.1 i) (pos x.0.0) (signed_bits x.0.1.0) (wide i)) ∙ sym (ap of_error x.1)
+    row ∙ (λ i. carries_three (numbered c.before.before.before x.is i) (pos x.bank) (signed_bits x.phase) (wide i)) ∙ sym (ap of_error x.is)
 
 returns-2 : tie.Need-returns-in-CoefficientSum
 returns-2 c =
-    let known = c.before.before.before in
-    let x = known.e-in-CoefficientSum-1.given in
+    let x = c.in-CoefficientSum in
     let row = simp (held w64 c.before.i64_of.result c.before.i64_of.type_inv) at c.of_row-in-CoefficientSum.ensures in
-    row ∙ (λ i. carries_three (numbered known.before.before x.1 i) (pos x.0.0) (signed_bits x.0.1.0) (c.before.i64_of.ensures i))
-    ∙ sym (ap of_error x.1)
+    row
+    ∙ (λ i. carries_three (numbered c.before.before.before x.is i) (pos x.bank) (signed_bits x.phase) (c.before.i64_of.ensures i))
+    ∙ sym (ap of_error x.is)
 
 returns-3 : tie.Need-returns-in-DetectorTaps
 returns-3 c =
-    let known = c.before.before in
-    let x = known.e-in-DetectorTaps-1.given in
-    c.of_bank.ensures ∙ ap (λ (n : ℕ). carries_one n (pos x.0.0)) (numbered known.before.before x.1) ∙ sym (ap of_error x.1)
+    let x = c.in-DetectorTaps in
+    c.of_bank.ensures ∙ ap (λ (n : ℕ). carries_one n (pos x.bank)) (numbered c.before.before x.is) ∙ sym (ap of_error x.is)
 
 returns-4 : tie.Need-returns-in-Range
 returns-4 c =
-    let known = c.before.before in
-    let x = known.e-in-Range-1.given in
-    c.of_bank-in-Range.ensures ∙ ap (λ (n : ℕ). carries_one n (pos x.0.0)) (numbered known.before.before x.1) ∙ sym (ap of_error x.1)
+    let x = c.in-Range in
+    c.of_bank-in-Range.ensures ∙ ap (λ (n : ℕ). carries_one n (pos x.field)) (numbered c.before.before x.is) ∙ sym (ap of_error x.is)
 
 -- the cases that carry nothing
 plain : (e : ParamError) → OneOf (0 ∷ 1 ∷ 5 ∷ 7 ∷ 8 ∷ []) (tag_of the_type e) → carries_none (error_refusal e).number ≡ of_error e
@@ -100,8 +96,7 @@ plain Delay k = refl
 
 returns-5 : tie.Need-returns-in_default
 returns-5 c =
-    let keys = c.before in
-    c.alone.ensures ∙ ap carries_none keys.before.number-number.ensures ∙ plain keys.before.before.args.e keys.match.keys5
+    c.alone.ensures ∙ ap carries_none c.number-number.ensures ∙ plain c.args.e c.in_default.in_default-own.keys5
 
 pub of_error_spec : {M : Type 1} → statement M
 of_error_spec =

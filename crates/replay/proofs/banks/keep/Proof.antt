@@ -19,7 +19,7 @@ least-requires-2 : tie.Need-least-start-requires
 least-requires-2 c κs = search rules
 
 slice-aggregate-keep-row : tie.Need-slice_bounds-keep_row-end
-slice-aggregate-keep-row c = sym (length-take-le c.before.before.least-most.result c.before.before.before.args.coefficients.now (omega arith))
+slice-aggregate-keep-row c = sym (length-take-le c.least-most.result c.args.coefficients.now (omega arith))
 
 keep-row-requires : tie.Need-keep_row-requires
 keep-row-requires c κs = search rules
@@ -39,10 +39,10 @@ both n left = omega arith
 
 returns : tie.Need-returns
 returns c =
-    let row = c.before.keep_row.ensures in
-    let start = c.before.before.before.before.least-start in
-    let most = c.before.before.before.before.before.least in
-    let a = c.before.before.before.before.before.before.args in
+    let row = c.keep_row.ensures in
+    let start = c.least-start in
+    let most = c.least-most in
+    let a = c.args in
     let cs = a.coefficients.now in
     let places = length a.room.now in
     let first : take most.result cs ≡ take 8192 cs = ap (λ (k : ℕ). take k cs) most.ensures ∙ take-least 8192 cs in
