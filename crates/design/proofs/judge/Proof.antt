@@ -27,15 +27,15 @@ enum-known-verdict c = search rules
 
 returns : tie.Need-returns-in-Refused
 returns c =
-    let v = c.before.before.before in
-    let e = c.before.verdict-1.given in
-    judge-refuses _ _ _ _ (error-numbered e.0.0) (refused {r = judged (sheet v.before)} v.validate-verdict.ensures e.1)
+    let v = c.before in
+    let e = c.in-Refused in
+    judge-refuses _ _ _ _ (error-numbered e.e) (refused {r = judged (sheet v.before)} v.validate-verdict.ensures e.is)
 
 enum_told : tie.Need-enum_told-1
 enum_told c = search rules
 
 returns-2 : tie.Need-returns
-returns-2 c = let v = c.before.before in judge-accepts _ _ _ _ (no-faults (sheet v.before) v.validate-verdict.ensures c.enum_told-1.given.1)
+returns-2 c = let v = c.before in judge-accepts _ _ _ _ (no-faults (sheet v.before) v.validate-verdict.ensures c.in_default.is)
 
 pub judge_spec : {M : Type 1} → statement M
 judge_spec = tie.close (tie.spec validate-requires enum-known-verdict returns enum_told returns-2)

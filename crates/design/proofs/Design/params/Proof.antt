@@ -23,15 +23,13 @@ judge-requires : tie.Need-judge-requires
 judge-requires c κs = search rules
 
 returns : tie.Need-returns-in-Refused
-returns c =
-    let e = c.before.designed-1.given in
-    design-refuses _ _ _ _ _ (sym (ap design_answer e.1) ∙ c.before.before.before.registers-designed.ensures)
+returns c = design-refuses _ _ _ _ _ (sym (ap design_answer c.in-Refused.is) ∙ c.before.registers-designed.ensures)
 
 returns-2 : tie.Need-returns-in-Accepted
 returns-2 c =
     let w = c.before in
-    let e = w.before.before.designed-in-Accepted-1.given in
-    design-accepts _ _ _ _ _ (sym (ap design_answer e.1) ∙ w.before.before.before.before.registers-designed.ensures) w.with_gains.ensures c.judge.ensures
+    let e = w.before.in-Accepted in
+    design-accepts _ _ _ _ _ (sym (ap design_answer e.is) ∙ w.before.before.registers-designed.ensures) w.with_gains.ensures c.judge.ensures
 
 pub params_spec : {M : Type 1} → statement M
 params_spec =

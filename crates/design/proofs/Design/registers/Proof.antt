@@ -4,7 +4,6 @@ use mathlib.Core.Path.{◌≡◌, sym, ap, ◌∙◌}
 use mathlib.Core.Bool.{true}
 use lib.Ieee.{Float}
 use borrow.Author.Rules.{rules}
-use borrow.Author.Tests.{not-true, not-false}
 use Rattle.params.specs.Judge.{good_taps}
 use Rattle.design.specs.Refusal.{accepted}
 use Rattle.design.specs.Registers.{sps_of, registers_of}
@@ -21,22 +20,22 @@ is-good-sps-requires c κs = search rules
 
 returns : tie.Need-returns-then-not-is_good_sps
 returns c = at-sps c.before.before.before.args.self c.before.before.sps-sps.ensures (sym c.before.is_good_sps.ensures
-    ∙ not-true _ c.if-not-is_good_sps.true)
+    ∙ c.if-not-is_good_sps.true)
 
 -- ---- what the tests have said when the next is made
 
 sps-good : (c : tie.Else-not-is_good_sps) → good_sps (sps_of c.before.before.before.args.self) ≡ true
-sps-good c = sym (ap good_sps c.before.before.sps-sps.ensures) ∙ sym c.before.is_good_sps.ensures ∙ not-false _ c.if-not-is_good_sps.false
+sps-good c = sym (ap good_sps c.before.before.sps-sps.ensures) ∙ sym c.before.is_good_sps.ensures ∙ c.if-not-is_good_sps.false
 
 is-good-taps-requires : tie.Need-is_good_taps-requires
 is-good-taps-requires c κs = search rules
 
 returns-2 : tie.Need-returns-then-not-is_good_taps
 returns-2 c = at-taps c.before.before.before.before.before.args.self (sps-good c.before.before) (sym c.before.is_good_taps.ensures
-    ∙ not-true _ c.if-not-is_good_taps.true)
+    ∙ c.if-not-is_good_taps.true)
 
 taps-good : (c : tie.Else-not-is_good_taps) → good_taps c.before.before.before.before.before.args.self.taps ≡ true
-taps-good c = sym c.before.is_good_taps.ensures ∙ not-false _ c.if-not-is_good_taps.false
+taps-good c = sym c.before.is_good_taps.ensures ∙ c.if-not-is_good_taps.false
 
 is-good-bits-requires : tie.Need-is_good_bits-requires
 is-good-bits-requires c κs = search rules
@@ -45,18 +44,18 @@ returns-3 : tie.Need-returns-then-not-is_good_bits
 returns-3 c =
     let t = c.before.before in
     at_bits t.before.before.before.before.before.args.self (sps-good t.before.before) (taps-good t) (sym c.before.is_good_bits.ensures
-    ∙ not-true _ c.if-not-is_good_bits.true)
+    ∙ c.if-not-is_good_bits.true)
 
 three : (c : tie.Else-not-is_good_bits) → Three c.before.before.before.before.before.before.before.args.self
 three c =
     let t = c.before.before in
-    record { sps = sps-good t.before.before; taps = taps-good t; bits = sym c.before.is_good_bits.ensures ∙ not-false _ c.if-not-is_good_bits.false }
+    record { sps = sps-good t.before.before; taps = taps-good t; bits = sym c.before.is_good_bits.ensures ∙ c.if-not-is_good_bits.false }
 
 is-good-trim-requires : tie.Need-is_good_trim-requires
 is-good-trim-requires c κs = search rules
 
 returns-4 : tie.Need-returns-then-not-is_good_trim
-returns-4 c = at-trim _ (three c.before.before) (sym c.before.is_good_trim.ensures ∙ not-true _ c.if-not-is_good_trim.true)
+returns-4 c = at-trim _ (three c.before.before) (sym c.before.is_good_trim.ensures ∙ c.if-not-is_good_trim.true)
 
 registers-at-requires : tie.Need-registers_at-requires
 registers-at-requires c κs = search rules
@@ -66,7 +65,7 @@ returns-5 c =
     let t = c.before.before.before in
     let s = t.before.before.before.before.before in
     ap accepted (c.registers_at.ensures ∙ ap (λ (x : Float). registers_of s.before.before.args.self x) s.before.sps-sps.ensures)
-    ∙ at-end _ (three t) (sym c.before.before.is_good_trim.ensures ∙ not-false _ c.before.if-not-is_good_trim.false)
+    ∙ at-end _ (three t) (sym c.before.before.is_good_trim.ensures ∙ c.before.if-not-is_good_trim.false)
 
 pub registers_spec : {M : Type 1} → statement M
 registers_spec =

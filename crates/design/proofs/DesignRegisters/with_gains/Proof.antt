@@ -13,10 +13,10 @@ unfolding params_of
 returns c =
     let r = c.before.before.args.self in
     let gains = c.before.before.args.gains in
-    let nco : to_z w32 (of_z w32 r.nco_step) ≡ r.nco_step = to_z-of_z (search c.before.struct_told-1.given depth 40) in
-    let integrator : to_z w32 (of_z w32 r.integrator_max) ≡ r.integrator_max = to_z-of_z (search c.before.struct_told-1.given depth 40) in
-    let kp : to_z w16 (of_z w16 gains.kp) ≡ gains.kp = to_z-of_z (search c.struct_told-2-1.given depth 40) in
-    let ki : to_z w16 (of_z w16 gains.ki) ≡ gains.ki = to_z-of_z (search c.struct_told-2-1.given depth 40) in
+    let nco : to_z w32 (of_z w32 r.nco_step) ≡ r.nco_step = to_z-of_z {w = w32} (search c.before.struct_told-1.given depth 40) in
+    let integrator : to_z w32 (of_z w32 r.integrator_max) ≡ r.integrator_max = to_z-of_z {w = w32} (search c.before.struct_told-1.given depth 40) in
+    let kp : to_z w16 (of_z w16 gains.kp) ≡ gains.kp = to_z-of_z {w = w16} (search c.struct_told-2-1.given depth 40) in
+    let ki : to_z w16 (of_z w16 gains.ki) ≡ gains.ki = to_z-of_z {w = w16} (search c.struct_told-2-1.given depth 40) in
     λ i. record {
       taps = r.taps;
       nco_step = nco i;
