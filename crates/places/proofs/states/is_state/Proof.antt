@@ -49,7 +49,7 @@ abbrev start : tie.Else-errors-ne48 → tie.Start
 start c = c.before.before.before
 
 slice-aggregate-are-kinds-2 : tie.Need-slice_bounds-are_kinds-end-2
-slice-aggregate-are-kinds-2 c = sym (length-take-le 10 (given (start c.before.before.before)).places (omega arith))
+slice-aggregate-are-kinds-2 c = sym (length-take-le 10 (given (start c.before.before)).places (omega arith))
 
 are-kinds-requires : tie.Need-are_kinds-requires
 are-kinds-requires c κs = search rules
@@ -66,13 +66,13 @@ parts c =
     ) (kinds-append first_kinds sheet_kinds l.places)
 
 abbrev long : tie.After-are_kinds → tie.Else-errors-ne48
-long c = c.before.before.before.before
+long c = c.before.before.before
 
 -- what was found of the first ten places
 first : (c : tie.After-are_kinds) → are_kinds first_kinds (take 10 (given (start (long c))).places) ≡ c.are_kinds.result
 first c =
     sym (c.are_kinds.ensures
-    ∙ ap (λ (kinds : List ℕ). are_kinds kinds (take 10 (given (start (long c))).places)) c.first-kinds.ensures)
+    ∙ ap (λ (kinds : List ℕ). are_kinds kinds (take 10 (given (start (long c))).places)) c.first_kinds-types.ensures)
 
 -- so those behind them are left to decide, or nothing is
 behind : (c : tie.After-are_kinds) {b : Bool} → c.are_kinds.result ≡ b
@@ -94,7 +94,7 @@ sub-are-kinds c = search rules
 part-are-kinds-start : tie.Need-slice_bounds-are_kinds-start
 part-are-kinds-start c = search rules
 
-part-are-kinds-end : tie.Need-slice_bounds-are_kinds-end
+part-are-kinds-end : tie.Need-slice_bounds-are_kinds-end-4
 part-are-kinds-end c = search rules
 
 are-kinds-requires-2 : tie.Need-are_kinds-requires-2

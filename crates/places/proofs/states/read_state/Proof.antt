@@ -98,7 +98,7 @@ returns-2 c =
     record {
       params = (params.params_of.ensures ∙ ap params_at (behind e)) i;
       registers = registers.registers_of.ensures i;
-      line = line.Line-of.ensures i;
+      line = line.line_of.ensures i;
       head = pending.count_at.ensures i;
       pending = pending.pending_of.ensures i;
       oldest = c.count_at-2.ensures i;

@@ -58,7 +58,7 @@ loop-again : tie.Need-loop-n-preserved invariant-loop decreases-loop
 loop-again c =
     let s = c.before.before.before.before.before in
     let l = c.loop-n in
-    let x = get_or s.args.t1 l.n no_pair in
+    let x = get_or s.args.line l.n no_pair in
     simp (held w32 x.i (search rules), held w32 x.q (search rules)) (put_next no_pair l.invariant (omega arith) (search rules) s.requires)
 
 same_length : tie.Need-shape_of-numbers invariant-loop decreases-loop

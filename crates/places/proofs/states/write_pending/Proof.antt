@@ -58,7 +58,7 @@ loop-again : tie.Need-loop-n-preserved invariant-loop decreases-loop
 loop-again c =
     let s = c.before.before.before.before.before in
     let l = c.loop-n in
-    let x = get_or s.args.t1 l.n no_pending in
+    let x = get_or s.args.pending l.n no_pending in
     simp (held w32 x.e (search rules), held w32 x.err (search rules)) (put_next no_pending l.invariant (omega arith) (search rules) s.requires)
 
 same_length : tie.Need-shape_of-numbers invariant-loop decreases-loop
