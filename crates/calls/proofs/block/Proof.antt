@@ -72,14 +72,14 @@ enum-known-p : tie.Need-enum_known-p
 enum-known-p c = search rules
 
 -- a sheet that cannot be read, and one that can
-unread : (c : tie.In-Refused-2) → Unread (sheet_number c.args.sheet.now) c.in-Refused.number
+unread : (c : tie.In-Refused) → Unread (sheet_number c.args.sheet.now) c.in-Refused.number
 unread c = sheet-refused _ (sym c.read_sheet.ensures ∙ c.in-Refused.is)
 
-readable : (c : tie.In-Sheet-2) → Sheeted c.args.sheet.now c.in-Sheet.p
+readable : (c : tie.In-Sheet) → Sheeted c.args.sheet.now c.in-Sheet.p
 readable c = sheet-read _ (sym c.read_sheet.ensures ∙ c.in-Sheet.is)
 
 returns-4 : tie.Need-returns-in-Refused
-returns-4 c = let u = unread c.before in refuses _ _ _ _ _ _ _ _ u.some (first-is _ _ u.some u.is) refl
+returns-4 c = let u = unread c in refuses _ _ _ _ _ _ _ _ u.some (first-is _ _ u.some u.is) refl
 
 -- ---- the state
 
@@ -88,8 +88,8 @@ read-state-requires c κs = search rules
 
 -- what a block answers of the state that was read
 module _ (c : tie.After-read_state-before) where
-  abbrev arm : tie.In-Sheet-2
-  arm = c.before.before.before
+  abbrev arm : tie.In-Sheet
+  arm = c.before
 
   abbrev start : tie.Start
   start = arm.before.before
@@ -224,7 +224,7 @@ module _ (c : tie.Else-refused-ne0-2) where
       let a = (start from).args in
       let few = block-clips (asked from) (state_of (given from)) a.values.now a.out.now in
       subst (λ (n : ℕ). n ≤ 9223372036854775807) (ap (λ (b : Block). b.clips) (sym done))
-      (omega (arith, few, leaves.written, (start from).good.1.1.1.1.1.1.1.1.0.1))
+      (omega (arith, few, leaves.written, (start from).well_formed.1.1.1.1.1.1.1.1.0.1))
 
 write-state-requires : tie.Need-write_state-requires
 write-state-requires c κs = search rules
@@ -324,7 +324,7 @@ same-length-13 : tie.Need-shape_of-errors
 same-length-13 c = search rules
 
 same-length-14 : tie.Need-shape_of-out
-same-length-14 c = (running (passed c)).process.kept.1.1.1.1.1.1.0
+same-length-14 c = (running (passed c)).process-done.auto.out
 
 same-length-15 : tie.Need-shape_of-answer
 same-length-15 c = search rules

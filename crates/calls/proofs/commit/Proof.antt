@@ -40,15 +40,15 @@ enum-known-p : tie.Need-enum_known-p
 enum-known-p c = search rules
 
 -- a sheet that cannot be read, and one that can
-unread : (c : tie.In-Refused-2) → Unread (sheet_number c.args.sheet.now) c.in-Refused.number
+unread : (c : tie.In-Refused) → Unread (sheet_number c.args.sheet.now) c.in-Refused.number
 unread c = sheet-refused _ (sym c.read_sheet.ensures ∙ c.in-Refused.is)
 
-readable : (c : tie.In-Sheet-2) → Sheeted c.args.sheet.now c.in-Sheet.p
+readable : (c : tie.In-Sheet) → Sheeted c.args.sheet.now c.in-Sheet.p
 readable c = sheet-read _ (sym c.read_sheet.ensures ∙ c.in-Sheet.is)
 
 returns-3 : tie.Need-returns-in-Refused
 unfolding commit_answer
-returns-3 c = let u = unread c.before in refuses _ _ _ u.some (first-is _ _ u.some u.is)
+returns-3 c = let u = unread c in refuses _ _ _ u.some (first-is _ _ u.some u.is)
 
 -- ---- slices that are no state
 
@@ -59,8 +59,8 @@ no-state-requires : tie.Need-no_state-requires
 no-state-requires c κs = search rules
 
 module _ (c : tie.After-is_state) where
-  abbrev arm : tie.In-Sheet-2
-  arm = c.before.before.before
+  abbrev arm : tie.In-Sheet
+  arm = c.before
 
   abbrev start : tie.Start
   start = arm.before.before
@@ -107,7 +107,7 @@ module _ (c : tie.Else-not-is_state) where
   fitting = sym tested.is_state.ensures ∙ c.if-not-is_state.false
 
 abbrev right : tie.After-commit-done → tie.Else-not-is_state
-right c = c.before.before.before
+right c = c.before.before
 
 -- what committing answers of the state that the slices say
 abbrev answer : tie.Else-not-is_state → Commit

@@ -38,7 +38,7 @@ enum-known-number c = search rules
 enum-known-design : tie.Need-enum_known-design
 enum-known-design c = search rules
 
-readable : (c : tie.In-Design-2)
+readable : (c : tie.In-Design)
     → let a = c.args in Readable a.rates.now a.fields.now c.in-Design.design c.in-Design.gains
 readable c = design-read _ _ (sym c.read_design.ensures ∙ c.in-Design.is)
 
@@ -58,7 +58,7 @@ module _ (c : tie.After-params-verdict) where
   told : sheet_answer c.params-verdict.result ≡ answer
   told =
       let a = start.args in
-      let arm = c.before.before in
+      let arm = c.before in
       let of-design : Design → Designed Params = λ d. sheet_of_design d arm.in-Design.gains a.h.now a.g.now a.k.now in
       let of-gains : Gains → Designed Params = λ s. sheet_of_design (design_at a.rates.now a.fields.now) s a.h.now a.g.now a.k.now in
       c.params-verdict.ensures ∙ ap of-design (readable arm).is ∙ ap of-gains (readable arm).with
@@ -89,18 +89,18 @@ write-sheet-requires c κs = search rules
 returns : tie.Need-returns-in-Refused
 unfolding design_answer
 returns c =
-    let arm = c.before in
+    let arm = c in
     let unread = design-refused _ _ (sym arm.read_design.ensures ∙ arm.in-Refused.is) in
     refuses _ _ _ unread.some (first-is _ _ unread.some unread.is)
 
 returns-2 : tie.Need-returns-in-Refused-verdict
 unfolding design_answer
 returns-2 c =
-    let arm = c.before.before in
+    let arm = c.before in
     let designed = arm.before in
     let is : c.number.result ≡ refused_by (answer designed) = c.number.ensures ∙ ap refused_by (sym (ap sheet_answer arm.in-Refused-verdict.is) ∙ told designed) in
     let some : c.number.result ≡ 0 → ⊥ = λ z. omega (arith, sheet-numbered arm.in-Refused-verdict.e, c.number.ensures) in
-    refuses _ _ _ some (then_is _ _ (readable designed.before.before).none (first-is _ _ some is))
+    refuses _ _ _ some (then_is _ _ (readable designed.before).none (first-is _ _ some is))
 
 -- ---- the sheet
 
@@ -116,7 +116,7 @@ sized p places = refl
 returns-3 : tie.Need-returns-in-Accepted
 unfolding design_answer
 returns-3 c =
-    let arm = c.before.before.before.before in
+    let arm = c.before.before.before in
     let designed = arm.before in
     let places = (start designed).args.sheet.now in
     let room : ℕ = cond (leb 18 (length places)) 0 11 in
@@ -124,7 +124,7 @@ returns-3 c =
     c.write_sheet.ensures
     ∙ sized _ places
     ∙ ap (λ (d : Designed Params). answered (first_number (refused_by d) room) (written_by d places) places) is
-    ∙ sym (then-answer _ _ _ places (readable designed.before.before).none)
+    ∙ sym (then-answer _ _ _ places (readable designed.before).none)
 
 pub design_spec : {M : Type 1} → statement M
 design_spec =

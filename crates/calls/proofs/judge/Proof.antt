@@ -29,7 +29,7 @@ number-requires c κs = search rules
 returns : tie.Need-returns-in-Refused
 unfolding judge_number
 returns c =
-    let arm = c.before in
+    let arm = c in
     let unread = sheet-refused _ (sym arm.read_sheet.ensures ∙ arm.in-Refused.is) in
     first-is _ _ unread.some unread.is
 
@@ -37,7 +37,7 @@ returns-2 : tie.Need-returns-in-Sheet
 unfolding judge_number
 returns-2 c =
     let judging = c.before in
-    let arm = judging.before.before in
+    let arm = judging.before in
     let read = arm.before in
     let a = read.args in
     let sheet = sheet-read _ (sym read.read_sheet.ensures ∙ arm.in-Sheet.is) in

@@ -32,10 +32,10 @@ enum-known-p : tie.Need-enum_known-p
 enum-known-p c = search rules
 
 -- a sheet that cannot be read, and one that can
-unread : (c : tie.In-Refused-2) → Unread (sheet_number c.args.sheet.now) c.in-Refused.number
+unread : (c : tie.In-Refused) → Unread (sheet_number c.args.sheet.now) c.in-Refused.number
 unread c = sheet-refused _ (sym c.read_sheet.ensures ∙ c.in-Refused.is)
 
-readable : (c : tie.In-Sheet-2) → Sheeted c.args.sheet.now c.in-Sheet.p
+readable : (c : tie.In-Sheet) → Sheeted c.args.sheet.now c.in-Sheet.p
 readable c = sheet-read _ (sym c.read_sheet.ensures ∙ c.in-Sheet.is)
 
 of-period-requires : tie.Need-of_period-offset-requires
@@ -52,7 +52,7 @@ module _ (c : tie.After-of_period-offset) where
   told : offset_parts c.of_period-offset.result ≡ answer
   told =
       let a = c.args in
-      c.of_period-offset.ensures ∙ ap (λ (p : Params). offset_of (sheet_of p a.h.now a.g.now a.k.now) a.period) (readable c.before.before).is
+      c.of_period-offset.ensures ∙ ap (λ (p : Params). offset_of (sheet_of p a.h.now a.g.now a.k.now) a.period) (readable c.before).is
 
 -- its number
 number : (c : tie.After-number-refused) → c.number-refused.result ≡ (answer c.before).refused.number
@@ -62,13 +62,13 @@ returns : tie.Need-returns-then-refused-ne0
 unfolding offset_answer
 returns c =
     let found = c.before.before in
-    refuses _ _ _ c.if-refused-ne0.true (then_is _ _ (readable found.before.before).none (first-is _ _ c.if-refused-ne0.true (number c.before)))
+    refuses _ _ _ c.if-refused-ne0.true (then_is _ _ (readable found.before).none (first-is _ _ c.if-refused-ne0.true (number c.before)))
 
 -- where both are 0, the length of the answer decides
 sized : (c : tie.After-number-refused) {n : ℕ} → c.number-refused.result ≡ 0
     → let a = c.args in n ≡ cond (leb 1 (length a.answer.now)) 0 11
     → n ≡ first_number (sheet_number a.sheet.now) (first_number (answer c.before).refused.number (cond (leb 1 (length a.answer.now)) 0 11))
-sized c z e = then_is _ _ (readable c.before.before.before).none (then_is _ _ (sym (number c) ∙ z) e)
+sized c z e = then_is _ _ (readable c.before.before).none (then_is _ _ (sym (number c) ∙ z) e)
 
 returns-2 : tie.Need-returns-then-answer-lt1
 unfolding offset_answer
@@ -83,7 +83,7 @@ slice-set-from-parts c = search rules
 
 returns-3 : tie.Need-returns-in-Refused
 unfolding offset_answer
-returns-3 c = let u = unread c.before in refuses _ _ _ u.some (first-is _ _ u.some u.is)
+returns-3 c = let u = unread c in refuses _ _ _ u.some (first-is _ _ u.some u.is)
 
 same_length : tie.Need-shape_of-answer
 same_length c = search rules

@@ -46,10 +46,10 @@ enum-known-p : tie.Need-enum_known-p
 enum-known-p c = search rules
 
 -- a sheet that cannot be read, and one that can
-unread : (c : tie.In-Refused-2) → Unread (sheet_number c.args.sheet.now) c.in-Refused.number
+unread : (c : tie.In-Refused) → Unread (sheet_number c.args.sheet.now) c.in-Refused.number
 unread c = sheet-refused _ (sym c.read_sheet.ensures ∙ c.in-Refused.is)
 
-readable : (c : tie.In-Sheet-2) → Sheeted c.args.sheet.now c.in-Sheet.p
+readable : (c : tie.In-Sheet) → Sheeted c.args.sheet.now c.in-Sheet.p
 readable c = sheet-read _ (sym c.read_sheet.ensures ∙ c.in-Sheet.is)
 
 -- ---- the state
@@ -65,8 +65,8 @@ number-requires c κs = search rules
 
 -- what reading answers of any slices
 module _ (c : tie.After-read-reading) where
-  abbrev arm : tie.In-Sheet-2
-  arm = c.before.before.before
+  abbrev arm : tie.In-Sheet
+  arm = c.before.before
 
   abbrev start : tie.Start
   start = arm.before.before
@@ -166,7 +166,7 @@ slice-set-from-answer-3 c = search rules
 
 returns-3 : tie.Need-returns-in-Refused
 unfolding read_answer
-returns-3 c = let u = unread c.before in refuses _ _ _ u.some (first-is _ _ u.some u.is)
+returns-3 c = let u = unread c in refuses _ _ _ u.some (first-is _ _ u.some u.is)
 
 same_length : tie.Need-shape_of-answer
 same_length c = search rules

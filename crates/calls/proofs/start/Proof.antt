@@ -26,10 +26,10 @@ enum-known-p : tie.Need-enum_known-p
 enum-known-p c = search rules
 
 -- a sheet that cannot be read, and one that can
-unread : (c : tie.In-Refused-2) → Unread (sheet_number c.args.sheet.now) c.in-Refused.number
+unread : (c : tie.In-Refused) → Unread (sheet_number c.args.sheet.now) c.in-Refused.number
 unread c = sheet-refused _ (sym c.read_sheet.ensures ∙ c.in-Refused.is)
 
-readable : (c : tie.In-Sheet-2) → Sheeted c.args.sheet.now c.in-Sheet.p
+readable : (c : tie.In-Sheet) → Sheeted c.args.sheet.now c.in-Sheet.p
 readable c = sheet-read _ (sym c.read_sheet.ensures ∙ c.in-Sheet.is)
 
 new-requires : tie.Need-new-started-requires
@@ -46,7 +46,7 @@ module _ (c : tie.After-new-started) where
   told : started c.new-started.result ≡ answer
   told =
       let a = c.args in
-      c.new-started.ensures ∙ ap (λ (p : Params). start_of (sheet_of p a.h.now a.g.now a.k.now)) (readable c.before.before).is
+      c.new-started.ensures ∙ ap (λ (p : Params). start_of (sheet_of p a.h.now a.g.now a.k.now)) (readable c.before).is
 
 -- its number
 number : (c : tie.After-number-refused) → c.number-refused.result ≡ (answer c.before).refused.number
@@ -61,14 +61,14 @@ returns : tie.Need-returns-then-refused-ne0
 unfolding start_answer
 returns c =
     let new = c.before.before in
-    refuses _ _ _ c.if-refused-ne0.true (then_is _ _ (readable new.before.before).none (first-is _ _ c.if-refused-ne0.true (number c.before)))
+    refuses _ _ _ c.if-refused-ne0.true (then_is _ _ (readable new.before).none (first-is _ _ c.if-refused-ne0.true (number c.before)))
 
 write-state-requires : tie.Need-write_state-requires
 write-state-requires c κs = search rules
 
 returns-2 : tie.Need-returns-in-Refused
 unfolding start_answer
-returns-2 c = let u = unread c.before in refuses _ _ _ u.some (first-is _ _ u.some u.is)
+returns-2 c = let u = unread c in refuses _ _ _ u.some (first-is _ _ u.some u.is)
 
 same_length : tie.Need-shape_of-state
 same_length c = search rules
@@ -96,7 +96,7 @@ returns-3 c =
     ∙ ap (λ (s : Start). state_written s.state l) (told new)
     ∙ written _ l
     ∙ sym (then-state _ _ _ l (sym (number right.before) ∙ right.if-refused-ne0.false))
-    ∙ sym (then-state _ _ _ l (readable new.before.before).none)
+    ∙ sym (then-state _ _ _ l (readable new.before).none)
 
 pub start_spec : {M : Type 1} → statement M
 start_spec =
