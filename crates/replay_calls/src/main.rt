@@ -10,8 +10,9 @@ mod sheet;
 mod states;
 
 use calls::Replay;
-use libc::STDOUT_FILENO;
 use rows::{Cursor, Tally};
+use std::io;
+use std::io::Read;
 
 #[derive(Clone, Copy)]
 struct Progress {
@@ -39,20 +40,19 @@ fn piece(
     Progress { cursor, replay }
 }
 
-fn report(t: Tally) {
-    io::print_decimal(STDOUT_FILENO, t.rows);
-    io::write_all(STDOUT_FILENO, b" answers of calls compared, ");
-    io::print_decimal(STDOUT_FILENO, t.wrong);
-    io::write_all(STDOUT_FILENO, b" differ");
-    if 0 < t.wrong {
-        io::write_all(STDOUT_FILENO, b", the first is answer ");
-        io::print_decimal(STDOUT_FILENO, t.first);
+fn report(rt: &impl Print, t: Tally) -> io::Result<()> {
+    let rows = t.rows;
+    let wrong = t.wrong;
+    print!(rt; "{rows} answers of calls compared, {wrong} differ")?;
+    if 0 < wrong {
+        let first = t.first;
+        print!(rt; ", the first is answer {first}")?;
     }
-    io::write_all(STDOUT_FILENO, b"\n");
+    println!(rt)
 }
 
-fn main() {
-    let mut bytes = io::large_buffer();
+fn main(rt: HostRuntime) -> io::Result<()> {
+    let mut bytes = [0u8; 65536];
     let mut row = [0i64; 8192];
     let mut banks = [0i32; 24576];
     let mut values = [0i16; 8192];
@@ -61,11 +61,12 @@ fn main() {
         cursor: Cursor::new(),
         replay: Replay::new(),
     };
-    let mut turns = u64::MAX;
-    let mut n: usize = 1;
-    while 0 < turns && 0 < n {
-        let got = libc::read(libc::STDIN_FILENO, &mut bytes);
-        n = io::count(got, &bytes);
+    let mut stdin = rt.stdin();
+    for _ in 0..u64::MAX {
+        let n = stdin.read(&mut bytes)?;
+        if n == 0 {
+            break;
+        }
         progress = piece(
             progress,
             &bytes[..n],
@@ -74,8 +75,7 @@ fn main() {
             &mut values,
             &mut out,
         );
-        turns -= 1;
     }
     let replay = progress.replay;
-    report(replay.tally);
+    report(&rt, replay.tally)
 }

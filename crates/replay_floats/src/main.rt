@@ -8,8 +8,9 @@ mod answers;
 mod calls;
 
 use calls::Replay;
-use libc::STDOUT_FILENO;
 use rows::{Cursor, Tally};
+use std::io;
+use std::io::Read;
 
 #[derive(Clone, Copy)]
 struct Progress {
@@ -30,34 +31,33 @@ fn piece(before: Progress, bytes: &[u8], row: &mut [i64], room: &mut [i32]) -> P
     Progress { cursor, replay }
 }
 
-fn report(t: Tally) {
-    io::print_decimal(STDOUT_FILENO, t.rows);
-    io::write_all(STDOUT_FILENO, b" answers on floats compared, ");
-    io::print_decimal(STDOUT_FILENO, t.wrong);
-    io::write_all(STDOUT_FILENO, b" differ");
-    if 0 < t.wrong {
-        io::write_all(STDOUT_FILENO, b", the first is answer ");
-        io::print_decimal(STDOUT_FILENO, t.first);
+fn report(rt: &impl Print, t: Tally) -> io::Result<()> {
+    let rows = t.rows;
+    let wrong = t.wrong;
+    print!(rt; "{rows} answers on floats compared, {wrong} differ")?;
+    if 0 < wrong {
+        let first = t.first;
+        print!(rt; ", the first is answer {first}")?;
     }
-    io::write_all(STDOUT_FILENO, b"\n");
+    println!(rt)
 }
 
-fn main() {
-    let mut bytes = io::large_buffer();
+fn main(rt: HostRuntime) -> io::Result<()> {
+    let mut bytes = [0u8; 65536];
     let mut row = [0i64; 8192];
     let mut room = [0i32; 24576];
     let mut progress = Progress {
         cursor: Cursor::new(),
         replay: Replay::new(),
     };
-    let mut turns = u64::MAX;
-    let mut n: usize = 1;
-    while 0 < turns && 0 < n {
-        let got = libc::read(libc::STDIN_FILENO, &mut bytes);
-        n = io::count(got, &bytes);
+    let mut stdin = rt.stdin();
+    for _ in 0..u64::MAX {
+        let n = stdin.read(&mut bytes)?;
+        if n == 0 {
+            break;
+        }
         progress = piece(progress, &bytes[..n], &mut row, &mut room);
-        turns -= 1;
     }
     let replay = progress.replay;
-    report(replay.tally);
+    report(&rt, replay.tally)
 }

@@ -2,8 +2,9 @@
 // `function,a,b,c,answer`; the program makes the same call and counts where it answers something else.
 #![tactic(auto)]
 
-use libc::STDOUT_FILENO;
 use rows::{Cursor, Tally};
+use std::io;
+use std::io::Read;
 
 #[derive(Clone, Copy)]
 struct Progress {
@@ -59,33 +60,32 @@ fn piece(before: Progress, wheel: &[i16; 1024], bytes: &[u8], row: &mut [i64; 5]
     Progress { cursor, tally }
 }
 
-fn report(t: Tally) {
-    io::print_decimal(STDOUT_FILENO, t.rows);
-    io::write_all(STDOUT_FILENO, b" answers of the leaves compared, ");
-    io::print_decimal(STDOUT_FILENO, t.wrong);
-    io::write_all(STDOUT_FILENO, b" differ");
-    if 0 < t.wrong {
-        io::write_all(STDOUT_FILENO, b", the first in row ");
-        io::print_decimal(STDOUT_FILENO, t.first);
+fn report(rt: &impl Print, t: Tally) -> io::Result<()> {
+    let rows = t.rows;
+    let wrong = t.wrong;
+    print!(rt; "{rows} answers of the leaves compared, {wrong} differ")?;
+    if 0 < wrong {
+        let first = t.first;
+        print!(rt; ", the first in row {first}")?;
     }
-    io::write_all(STDOUT_FILENO, b"\n");
+    println!(rt)
 }
 
-fn main() {
+fn main(rt: HostRuntime) -> io::Result<()> {
     let wheel = tables::cos_table();
-    let mut bytes = io::large_buffer();
+    let mut bytes = [0u8; 65536];
     let mut row = [0i64; 5];
     let mut progress = Progress {
         cursor: Cursor::new(),
         tally: Tally::new(),
     };
-    let mut turns = u64::MAX;
-    let mut n: usize = 1;
-    while 0 < turns && 0 < n {
-        let got = libc::read(libc::STDIN_FILENO, &mut bytes);
-        n = io::count(got, &bytes);
+    let mut stdin = rt.stdin();
+    for _ in 0..u64::MAX {
+        let n = stdin.read(&mut bytes)?;
+        if n == 0 {
+            break;
+        }
         progress = piece(progress, &wheel, &bytes[..n], &mut row);
-        turns -= 1;
     }
-    report(progress.tally);
+    report(&rt, progress.tally)
 }
