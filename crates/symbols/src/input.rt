@@ -1,10 +1,14 @@
 // Standard input, line by line through one buffer. A line is read where it stands; only one that the buffer's end cuts is moved to its front.
 use crate::stop::Stop;
 use recording::Next;
+use std::io::{Read, Stderr, Stdin};
 
-// What the buffer holds and is not used yet, from `at` to before `end`, and whether the input has ended behind it.
+// Where the bytes come from and where a failure is told, what the buffer holds and is not used yet, from `at` to before `end`, and whether the input has
+// ended behind it.
 #[derive(Clone, Copy)]
 pub(crate) struct Input {
+    stdin: Stdin,
+    stderr: Stderr,
     at: usize,
     end: usize,
     over: bool,
@@ -56,8 +60,10 @@ fn to_front(bytes: &mut [u8], from: usize, to: usize) -> usize {
 }
 
 impl Input {
-    pub(crate) fn new() -> Input {
+    pub(crate) fn new(stdin: Stdin, stderr: Stderr) -> Input {
         Input {
+            stdin,
+            stderr,
             at: 0,
             end: 0,
             over: false,
@@ -67,17 +73,22 @@ impl Input {
     // Reads on behind the bytes that are not used yet.
     fn more(self, bytes: &mut [u8]) -> More {
         let kept = arith::least(to_front(bytes, self.at, self.end), bytes.len());
-        let got = libc::read(libc::STDIN_FILENO, &mut bytes[kept..]);
-        if got < 0 {
-            os::fail(b"symbols: reading standard input");
-            return More::Failed;
+        let mut stdin = self.stdin;
+        let stderr = self.stderr;
+        match stdin.read(&mut bytes[kept..]) {
+            Ok(n) => More::Bytes(Input {
+                stdin,
+                stderr,
+                at: 0,
+                end: kept + n,
+                over: n == 0,
+            }),
+            Err(e) => {
+                // A message that cannot be written either is lost.
+                let _ = eprintln!(stderr; "symbols: reading standard input: {e}");
+                More::Failed
+            }
         }
-        let n = io::count(got, &bytes[kept..]);
-        More::Bytes(Input {
-            at: 0,
-            end: kept + n,
-            over: n == 0,
-        })
     }
 
     // The next line, which has this number. More is read until it is there, or nothing can be.
@@ -89,6 +100,8 @@ impl Input {
                 Next::Line(n) => {
                     let to = std::num::wrapping_add_usize(input.at, n);
                     let rest = Input {
+                        stdin: input.stdin,
+                        stderr: input.stderr,
                         at: std::num::wrapping_add_usize(to, 1),
                         end: input.end,
                         over: input.over,

@@ -10,25 +10,28 @@ mod run;
 mod sheet;
 mod stop;
 
+use input::Input;
+use output::Output;
 use sheet::Head;
 
-fn main() {
-    let mut bytes = io::large_buffer();
+fn main(rt: HostRuntime) {
+    let mut bytes = [0u8; 65536];
     let mut h = [0i32; 4096];
     let mut g = [0i32; 4096];
     let mut k = [0i32; 4096];
-    let mut head = Head::of_line(&mut bytes);
+    let mut head = Head::of_line(Input::new(rt.stdin(), rt.stderr()), &mut bytes);
     head = head.with_bank(2, &mut h, &mut bytes);
     head = head.with_bank(66, &mut g, &mut bytes);
     head = head.with_bank(130, &mut k, &mut bytes);
     let params = head.params;
     let long = recording::bank_length(params.taps);
-    let mut out = io::large_buffer();
+    let mut out = [0u8; 65536];
     let left = run::run(
         head,
         &h[0..long],
         &g[0..long],
         &k[0..long],
+        Output::new(rt.stdout(), rt.stderr()),
         &mut bytes,
         &mut out,
     );

@@ -1,9 +1,12 @@
 // Standard output, through one buffer.
 use crate::input;
+use std::io::{ErrorKind, Stderr, Stdout};
 
-// How many bytes of the buffer wait to be written, and whether all before them were.
+// Where the bytes go and where a failure is told, how many bytes of the buffer wait to be written, and whether all before them were.
 #[derive(Clone, Copy)]
 pub(crate) struct Output {
+    stdout: Stdout,
+    stderr: Stderr,
     waiting: usize,
     good: bool,
 }
@@ -14,8 +17,10 @@ const PLACES: usize = 20;
 const LINE: usize = 440;
 
 impl Output {
-    pub(crate) fn new() -> Output {
+    pub(crate) fn new(stdout: Stdout, stderr: Stderr) -> Output {
         Output {
+            stdout,
+            stderr,
             waiting: 0,
             good: true,
         }
@@ -30,16 +35,18 @@ impl Output {
         if !self.good {
             return self;
         }
-        if io::write_all(libc::STDOUT_FILENO, input::part(out, 0, self.waiting)) {
-            return Output::new();
+        let stdout = self.stdout;
+        let stderr = self.stderr;
+        let mut left = self;
+        left.waiting = 0;
+        if let Err(e) = stdout.write_all(input::part(out, 0, self.waiting)) {
+            if e.kind() != ErrorKind::BrokenPipe {
+                // A message that cannot be written either is lost.
+                let _ = eprintln!(stderr; "symbols: writing standard output: {e}");
+            }
+            left.good = false;
         }
-        if os::errno() != libc::EPIPE {
-            os::fail(b"symbols: writing standard output");
-        }
-        Output {
-            waiting: 0,
-            good: false,
-        }
+        left
     }
 
     // With room for one more line.

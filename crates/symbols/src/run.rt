@@ -60,7 +60,7 @@ fn block_of(before: Input, first: u64, values: &mut [i16], bytes: &mut [u8]) -> 
 
 impl Progress {
     // Before the first pair.
-    fn new(head: Head, h: &[i32], g: &[i32], k: &[i32]) -> Progress {
+    fn new(head: Head, h: &[i32], g: &[i32], k: &[i32], output: Output) -> Progress {
         let params = head.params;
         let started = Frontend::new(params, h, g, k);
         let verdict = started.verdict;
@@ -75,7 +75,7 @@ impl Progress {
             state,
             rest,
             line: FIRST,
-            output: Output::new(),
+            output,
             stop,
         }
     }
@@ -172,6 +172,7 @@ pub(crate) fn run(
     h: &[i32],
     g: &[i32],
     k: &[i32],
+    output: Output,
     bytes: &mut [u8],
     out: &mut [u8],
 ) -> Output {
@@ -179,7 +180,7 @@ pub(crate) fn run(
     let mut values = [0i16; 4096];
     let mut places = [0i64; 20480];
     let params = head.params;
-    let mut r = Progress::new(head, h, g, k);
+    let mut r = Progress::new(head, h, g, k, output);
     let mut turns = u64::MAX;
     while 0 < turns && r.goes_on() {
         let block = block_of(r.rest, r.line, &mut values, bytes);

@@ -18,10 +18,10 @@ pub(crate) struct Head {
 
 impl Head {
     // Line 1. A row's length rests on the taps, so these are judged at once.
-    pub(crate) fn of_line(bytes: &mut [u8]) -> Head {
+    pub(crate) fn of_line(input: Input, bytes: &mut [u8]) -> Head {
         let mut values = [0i64; 18];
         let types = places::sheet_kinds();
-        let taken = Input::new().take(1, &types, &mut values, bytes);
+        let taken = input.take(1, &types, &mut values, bytes);
         let rest = taken.rest;
         let stop = taken.stop;
         let params = fields::none();
