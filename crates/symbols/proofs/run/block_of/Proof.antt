@@ -5,11 +5,11 @@ use Rattle.symbols.proofs.run.block_of.Statement.{statement}
 use Rattle.symbols.proofs.run.block_of.Tie as tie
 
 abbrev invariant-loop : tie.invariant-loop-n
-invariant-loop first values₀ bytes₀ pair₀ rest₀ n₀ t11 values bytes pair rest n =
+invariant-loop first values₀ bytes₀ pair₀ rest₀ n₀ values bytes pair rest n =
     (length values ≡ length values₀) × (length bytes ≡ length bytes₀) × (length pair ≡ 2) × (n ≤ length values / 2)
 
 abbrev decreases-loop : tie.decreases-loop-n
-decreases-loop first values₀ bytes₀ pair₀ rest₀ n₀ t11 values bytes pair rest n =
+decreases-loop first values₀ bytes₀ pair₀ rest₀ n₀ values bytes pair rest n =
     length values / 2 - n
 
 loop-holds : tie.Need-loop-n-init invariant-loop decreases-loop
@@ -20,9 +20,6 @@ wrapping-add-u64-requires c κs = search rules
 
 slice-aggregate-take : tie.Need-slice_bounds-take-end-in-loop-n invariant-loop decreases-loop
 slice-aggregate-take c = search rules
-
-slice-aggregate-take-2 : tie.Need-slice-aggregate-take-2 invariant-loop decreases-loop
-slice-aggregate-take-2 c = search rules
 
 take-requires : tie.Need-take-taken-requires invariant-loop decreases-loop
 take-requires c κs = search rules
@@ -81,7 +78,6 @@ block_of_spec =
     loop-holds
     wrapping-add-u64-requires
     slice-aggregate-take
-    slice-aggregate-take-2
     take-requires
     is-no-requires
     mul-t23

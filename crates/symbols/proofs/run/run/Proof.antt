@@ -47,31 +47,14 @@ with-pairs-requires c κs = search rules
 behind-requires : tie.Need-behind-r-requires invariant-loop decreases-loop
 behind-requires c κs = search rules
 
--- a turn
-module _ (c : tie.After-behind-r invariant-loop decreases-loop) where
-  abbrev took : tie.After-with_pairs-r invariant-loop decreases-loop
-  took = c.before.before.before.before
-
-  abbrev read : tie.After-block_of-block invariant-loop decreases-loop
-  read = took.before.before.before.before.before.before.before.before.before
-
-  abbrev turn : tie.In-loop-turns invariant-loop decreases-loop
-  turn = read.before.before.before.before.before
-
 sub-turns : tie.Need-overflow_sub-turns invariant-loop decreases-loop
-sub-turns c = (turn c).loop-turns-test.true
+sub-turns c = search rules
 
 loop-less : tie.Need-loop-turns-smaller invariant-loop decreases-loop
-loop-less c = omega (arith, (turn c).loop-turns-test.true)
+loop-less c = search rules
 
 loop-again : tie.Need-loop-turns-preserved invariant-loop decreases-loop
-loop-again c =
-    let inv = (turn c).before.loop-turns.invariant in (
-      (read c).Block-of.auto.1.1.1.0 ∙ inv.0,
-      (took c).with_pairs-r.auto.out ∙ inv.1,
-      (read c).Block-of.auto.1.1.0 ∙ inv.2,
-      (took c).with_pairs-r.auto.places ∙ inv.3,
-    )
+loop-again c = search rules
 
 ended-requires : tie.Need-ended-requires invariant-loop decreases-loop
 ended-requires c κs = search rules
