@@ -27,18 +27,13 @@ loop-less : tie.Need-loop-cursor-smaller-then-cursor invariant-loop decreases-lo
 loop-less c = search rules
 
 loop-again : tie.Need-loop-cursor-preserved-then-cursor invariant-loop decreases-loop
-loop-again c =
-    let i = c.before.before.before.before.before.before.before.before.before.before.before.before.before.before.loop-cursor.invariant in
-    let row = c.before.before.before.before.before.before.before.before.before.row-1.given in
-    (search rules, (row ∙ i.1.0, (c.before.before.banks-1.given ∙ i.1.1.0, (c.before.values-1.given ∙ i.1.1.1.0, c.out-1.given ∙ i.1.1.1.1))))
+loop-again c = search rules
 
 loop-less-2 : tie.Need-loop-cursor-smaller invariant-loop decreases-loop
 loop-less-2 c = search rules
 
 loop-again-2 : tie.Need-loop-cursor-preserved invariant-loop decreases-loop
-loop-again-2 c =
-    let i = c.before.before.before.before.before.before.loop-cursor.invariant in
-    (search rules, (c.before.row-1.given ∙ i.1.0, i.1.1))
+loop-again-2 c = search rules
 
 same_length : tie.Need-shape_of-row invariant-loop decreases-loop
 same_length c = search rules

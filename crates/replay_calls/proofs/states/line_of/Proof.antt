@@ -39,7 +39,7 @@ mul-line c = search rules
 array-set-from-line : tie.Need-bounds-line-n invariant-loop decreases-loop
 array-set-from-line c = search rules
 
-add-n : tie.Need-overflow_add-n invariant-loop decreases-loop
+add-n : tie.Need-overflow_add-n-in-loop-n invariant-loop decreases-loop
 add-n c = search rules
 
 loop-less : tie.Need-loop-n-smaller invariant-loop decreases-loop

@@ -40,7 +40,7 @@ mul-pending c = search rules
 array-set-from-pending : tie.Need-bounds-pending-n invariant-loop decreases-loop
 array-set-from-pending c = search rules
 
-add-n : tie.Need-overflow_add-n invariant-loop decreases-loop
+add-n : tie.Need-overflow_add-n-in-loop-n invariant-loop decreases-loop
 add-n c = search rules
 
 loop-less : tie.Need-loop-n-smaller invariant-loop decreases-loop

@@ -1,5 +1,5 @@
 -- `replay_calls::calls::Replay::processed` is safe: the output keeps its length where it is filled, and where the block writes to it.
-use Rattle.std.proofs.Common.{◌∙◌, rules}
+use Rattle.std.proofs.Common.{rules}
 use Rattle.replay_calls.proofs.calls.Replay.processed.Statement.{statement}
 use Rattle.replay_calls.proofs.calls.Replay.processed.Tie as tie
 
@@ -25,9 +25,7 @@ counted-requires : tie.Need-counted-requires
 counted-requires c κs = search rules
 
 same_length : tie.Need-shape_of-out
-same_length c =
-    let filled = c.before.before.before.before.before.before.before.before.before.before.before.before.before.before.before.fill in
-    c.before.before.before.before.before.process-block.auto.out ∙ filled.auto.0
+same_length c = search rules
 
 returns : tie.Need-returns
 returns c = search rules
