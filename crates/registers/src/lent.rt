@@ -14,7 +14,7 @@ pub fn change(r: &mut Registers, p: Params, due: bool, w: Pending) -> bool
     s.made
 }
 
-// The same of registers by value, by way of `change`: who calls this holds no reference to a struct, and needs no proof by hand.
+// The same of registers by value, by way of `change`: who calls this holds no reference to a struct.
 pub fn changed(r: Registers, p: Params, due: bool, w: Pending) -> AfterSymbol
     ensures { result ≡ after_symbol p r due w }
 {
