@@ -75,7 +75,7 @@ module _ (c : tie.After-slice_known-in-loop-n-1 invariant-loop decreases-loop) w
   written = c.before.before
 
   abbrev numbered : tie.After-number-number invariant-loop decreases-loop
-  numbered = written.before.before.before
+  numbered = written.before.before
 
   abbrev called : tie.After-process-done invariant-loop decreases-loop
   called = numbered.before.before
@@ -112,15 +112,15 @@ module _ (c : tie.Else-number-gt0 invariant-loop decreases-loop) where
   some : 1 ≤ (called done).process-done.result.taken
   some =
       took-some _ _ _ _ (called done).process-done.ensures none
-      (omega (arith, rest-long (values done) (2 * (turn done).before.loop-n.n), (turn done).loop-n-test.taken))
+      (omega (arith, rest-long (values done) (2 * (turn done).before.loop-n.n), (turn done).loop-n-test.true))
 
   given : (turn done).before.loop-n.n + (called done).process-done.result.taken ≤ length (values done) / 2
   given =
       let most = took-given _ _ _ _ (called done).process-done.ensures none in
-      omega (arith, most, rest-long (values done) (2 * (turn done).before.loop-n.n), (turn done).loop-n-test.taken)
+      omega (arith, most, rest-long (values done) (2 * (turn done).before.loop-n.n), (turn done).loop-n-test.true)
 
 add-n : tie.Need-overflow_add-n invariant-loop decreases-loop
-add-n c = record { fits = omega (arith, given c.before, (turn c.before.before).before.before.before.good) }
+add-n c = record { fits = omega (arith, given c.before, (turn c.before.before).before.before.before.well_formed) }
 
 loop-less : tie.Need-loop-n-smaller invariant-loop decreases-loop
 loop-less c = omega (arith, some c.before, given c.before)
