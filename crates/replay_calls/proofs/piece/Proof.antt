@@ -1,5 +1,5 @@
 -- `replay_calls::piece` is safe and ends: each turn reads on by a byte at least, within the piece, and no room changes its length.
-use Rattle.std.proofs.Common.{◌≡◌, ◌-◌, ◌≤◌, length, ◌∙◌, rules}
+use Rattle.std.proofs.Common.{◌≡◌, ◌-◌, ◌≤◌, length, rules}
 use Rattle.replay_calls.proofs.piece.Statement.{statement}
 use Rattle.replay_calls.proofs.piece.Tie as tie
 

@@ -1,6 +1,6 @@
 -- `symbols::run::run` is safe and ends: the turns run out.
 -- The rooms keep their lengths.
-use Rattle.std.proofs.Common.{◌≡◌, length, ◌∙◌, arith, rules}
+use Rattle.std.proofs.Common.{◌≡◌, length, rules}
 use Rattle.symbols.proofs.run.run.Statement.{statement}
 use Rattle.symbols.proofs.run.run.Tie as tie
 
