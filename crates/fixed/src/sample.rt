@@ -173,8 +173,8 @@ pub(crate) fn push(
     requires cos_value { cos.now ≡ wheel_table }
     requires ready { Ready (sheet_of p h.now g.now k.now) (kept i.old q.old e.old err.old r w) }
     ensures { Pushes (sheet_of p h.now g.now k.now)
-        (kept i.entry.now q.old e.old err.old r w)
-        (kept i.exit.now q.new e.new err.new result.registers result.position)
+        (kept i.old q.old e.old err.old r w)
+        (kept i.new q.new e.new err.new result.registers result.position)
         (record { i = x; q = y }) result.made result.symbol }
 {
     let taps = p.taps as usize;
