@@ -1,6 +1,6 @@
 -- A list keeps the invariant: each call that is accepted does, and one that is refused changes nothing. A block's samples keep it one by one (Invariant), under
 -- the sheet that the state holds; a commit is accepted only where the state is good under the new sheet.
-use Prim.Native.Nat.{ℕ, suc, ◌+◌}
+use Prim.Native.Nat.{ℕ, suc}
 use mathlib.Core.Path.{◌≡◌, refl, sym, ap, subst, ◌∙◌}
 use mathlib.Core.Bool.{Bool, true, false}
 use mathlib.Core.List.{List, [], ◌∷◌, ◌++◌, append_assoc, append-nil}

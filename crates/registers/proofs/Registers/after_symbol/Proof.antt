@@ -13,7 +13,6 @@ use borrow.Author.Rules.{rules}
 use borrow.Author.Tests.{ltb-true}
 use Rattle.arith.proofs.Order.{lt-pn, le-pn}
 use Rattle.params.specs.declared.Params.{Params}
-use Rattle.arith.specs.Arith.{within}
 use Rattle.arith.proofs.Both.{and_left, and_right}
 use Rattle.registers.specs.declared.Pending.{Pending}
 use Rattle.registers.specs.declared.Registers.{Registers}

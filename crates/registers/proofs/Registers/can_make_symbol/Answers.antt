@@ -6,14 +6,13 @@ use lib.Dec.{ltb}
 use lib.IntN.{neg_ℤ}
 use lib.Signed.{le_z, lt_z}
 use mir.Val.{SFits}
-use Rattle.arith.proofs.Bits.{held, widens, widened}
+use Rattle.arith.proofs.Bits.{held}
 use Rattle.arith.specs.Arith.{within}
 use Rattle.params.specs.declared.Params.{Params}
 use Rattle.registers.specs.declared.Registers.{Registers}
 use Rattle.registers.specs.Correct.{integrator_end}
 use Rattle.registers.specs.Step.{one, can_make_symbol}
-use Rattle.arith.proofs.Widths.{in64}
-use Rattle.registers.proofs.Integrator.{end_fits, low_fits, end_is, low-test, high-test}
+use Rattle.registers.proofs.Integrator.{low-test, high-test}
 use Rattle.arith.proofs.Tested.{with-next, and-taken, and-left}
 use Rattle.registers.proofs.Registers.can_make_symbol.Goals as goal
 use Rattle.registers.proofs.Registers.can_make_symbol.Goals.{Joined-end-self, then-self-ge0, else-self-ge0}

@@ -1,13 +1,12 @@
 -- `state::Frontend::check_sizes` meets its contract: it makes the definition's three tests in the same order.
 -- Samples counted by what is left of them say the same as the definition's sum.
-use Prim.Native.Nat.{ℕ, ◌+◌, ◌/◌, ◌%◌, ◌≤◌, ◌<◌}
+use Prim.Native.Nat.{ℕ, ◌+◌, ◌%◌, ◌≤◌, ◌<◌}
 use mathlib.Core.Path.{◌≡◌}
 use mathlib.Core.Logic.{◌⊎◌, inl, inr, ⊎_elim}
 use mathlib.Core.Bool.{false, ◌||◌}
 use mathlib.Core.List.{List, [], ◌∷◌}
 use native.Mathlib.Omega.{arith}
 use lib.Dec.{eqb, leb, lit<}
-use borrow.Author.Rules.{rules}
 use borrow.Author.Tests.{eq-eqb, ne_eqb, le-leb, lt-leb}
 use Rattle.params.specs.Refusal.{Refusal, refusal, unless, first_of}
 use Rattle.params.proofs.Faults.{First, none, keeps, breaks}

@@ -1,6 +1,6 @@
 -- `state::check::is_good_state` meets its contract: its tests are the definition's, in the same order.
 -- Each `&&` of the code joins the tests so far and the next one, which is made only where those hold (`and-taken`, `and-left`).
-use Rattle.std.proofs.Common.{◌≡◌, ℕ, ◌≤◌, ◌<◌, sym, refl, ap, ◌∙◌, Bool, true, false, ◌&&◌, w8, w32, w64, ℤ, pos, arith}
+use Rattle.std.proofs.Common.{◌≡◌, ℕ, ◌≤◌, ◌<◌, sym, refl, ap, ◌∙◌, Bool, true, false, ◌&&◌, w32, w64, ℤ, pos, arith}
 use mathlib.Core.Bool.{and_assoc}
 use lib.Dec.{eqb, leb, ltb}
 use lib.IntN.{neg_ℤ}
