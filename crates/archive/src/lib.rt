@@ -1,16 +1,30 @@
 // The front end for C and Rust: crates/calls, and float samples of crates/input, under the names and with the arguments that include/huntelm.h declares.
 #![tactic(auto)]
 
-ghost use Rattle.std.specs.Prelude.{◌≡◌};
+ghost use Rattle.std.specs.Prelude.{◌≡◌, Result};
+ghost use Rattle.kinds.specs.Answer.{answer_number};
 ghost use Rattle.places.specs.States.{slices};
 ghost use Rattle.calls.specs.Calls.{judge_number, start_answer, block_answer, read_answer, ask_answer, commit_answer, offset_answer, design_answer};
+ghost use Rattle.calls.specs.Refusal.{call_number};
 ghost use Rattle.input.specs.Input.{sample_answer};
+
+use calls::CallError;
+
+// C has no enums: a call answers 0, or the number of its refusal.
+fn number(answer: Result<(), CallError>) -> u32
+    ensures { result ≡ answer_number call_number answer }
+{
+    match answer {
+        Ok(()) => 0,
+        Err(error) => error.number(),
+    }
+}
 
 #[unsafe(no_mangle)]
 pub extern "C" fn huntelm_judge(sheet: &[i64], h: &[i32], g: &[i32], k: &[i32]) -> u32
     ensures { result ≡ judge_number sheet.now h.now g.now k.now }
 {
-    calls::judge(sheet, h, g, k)
+    number(calls::judge(sheet, h, g, k))
 }
 
 #[unsafe(no_mangle)]
@@ -27,7 +41,7 @@ pub extern "C" fn huntelm_start(
         ≡ start_answer sheet.now h.now g.now k.now
         (slices state.old line.old errors.old) }
 {
-    calls::start(sheet, h, g, k, state, line, errors)
+    number(calls::start(sheet, h, g, k, state, line, errors))
 }
 
 #[unsafe(no_mangle)]
@@ -52,7 +66,7 @@ pub extern "C" fn huntelm_block(
         ≡ block_answer sheet.now h.now g.now k.now
         (slices state.old line.old errors.old) values.now out.old answer.old }
 {
-    calls::block(sheet, h, g, k, state, line, errors, values, out, answer)
+    number(calls::block(sheet, h, g, k, state, line, errors, values, out, answer))
 }
 
 #[unsafe(no_mangle)]
@@ -70,7 +84,7 @@ pub extern "C" fn huntelm_read(
         ≡ read_answer sheet.now h.now g.now k.now
         (slices state.now line.now errors.now) answer.old }
 {
-    calls::read(sheet, h, g, k, state, line, errors, answer)
+    number(calls::read(sheet, h, g, k, state, line, errors, answer))
 }
 
 #[unsafe(no_mangle)]
@@ -88,7 +102,7 @@ pub extern "C" fn huntelm_ask(
         ≡ ask_answer sheet.now h.now g.now k.now
         (slices state.now line.now errors.now) answer.old }
 {
-    calls::ask(sheet, h, g, k, state, line, errors, answer)
+    number(calls::ask(sheet, h, g, k, state, line, errors, answer))
 }
 
 #[unsafe(no_mangle)]
@@ -106,7 +120,7 @@ pub extern "C" fn huntelm_commit(
         ≡ commit_answer ticket sheet.now h.now g.now k.now
         (slices state.old line.now errors.now) }
 {
-    calls::commit(ticket, sheet, h, g, k, state, line, errors)
+    number(calls::commit(ticket, sheet, h, g, k, state, line, errors))
 }
 
 #[unsafe(no_mangle)]
@@ -121,14 +135,17 @@ pub extern "C" fn huntelm_offset(
     ensures { record { number = result; places = answer.new }
         ≡ offset_answer sheet.now h.now g.now k.now period answer.old }
 {
-    calls::offset(sheet, h, g, k, period, answer)
+    number(calls::offset(sheet, h, g, k, period, answer))
 }
 
 #[unsafe(no_mangle)]
 pub extern "C" fn huntelm_sample(floats: &[f32], values: &mut [i16]) -> u32
     ensures { record { number = result; places = values.new } ≡ sample_answer floats.now values.old }
 {
-    input::sample(floats, values)
+    match input::sample(floats, values) {
+        Ok(()) => 0,
+        Err(error) => error.number(),
+    }
 }
 
 #[unsafe(no_mangle)]
@@ -143,5 +160,5 @@ pub extern "C" fn huntelm_design(
     ensures { record { number = result; places = sheet.new }
         ≡ design_answer rates.now fields.now h.now g.now k.now sheet.old }
 {
-    calls::design(rates, fields, h, g, k, sheet)
+    number(calls::design(rates, fields, h, g, k, sheet))
 }

@@ -24,9 +24,6 @@ pub record Filled {A : Type 0} (d : A) (f : ℕ → A) (n : ℕ) (l₀ l : List 
   pub first : (m : ℕ) → m < n → get_or l m d ≡ f m
   pub rest : (m : ℕ) → n ≤ m → get_or l m d ≡ get_or l₀ m d
 
-pub filled_none : {A : Type 0} (d : A) (f : ℕ → A) (l : List A) → Filled d f 0 l l
-filled_none d f l = record { long = refl; first = λ m h. absurd (omega arith); rest = λ m h. refl }
-
 pub filled_next : {A : Type 0} {d : A} {f : ℕ → A} {n : ℕ} {l₀ l : List A} → Filled d f n l₀ l → n < length l → Filled d f (n + 1) l₀ (set l n (f n))
 filled_next {A} {d} {f} {n} {l₀} {l} filled h =
     record {

@@ -10,5 +10,6 @@ pub mod Modulus
 pub mod Widths
 pub mod Tested
 pub mod Held
+pub mod Narrowed
 pub mod Both
 pub mod Filled

@@ -1,29 +1,12 @@
 -- Remainders modulo 2^32. The machine's remainder has the sign of its dividend, so it is right or one modulus away; in terms of pos_part and neg_part that is a
 -- fact about remainders of naturals, which `omega` decides.
-use Prim.Native.Nat.{ℕ, suc, ◌+◌, ◌%◌, ◌^◌, ◌≤◌, ◌<◌}
-use mathlib.Core.Path.{◌≡◌, refl}
+use Prim.Native.Nat.{ℕ, ◌+◌, ◌%◌, ◌^◌, ◌≤◌, ◌<◌}
+use mathlib.Core.Path.{◌≡◌}
+use Rattle.std.proofs.lemmas.Int.{ints}
 use native.Mathlib.Omega.{arith}
-use lib.IntN.{ℤ, pos, negsuc, ◌+ℤ◌, ◌-ℤ◌}
-use lib.Signed.{rem_z}
-use mir.Syntax.{w64}
-use mir.Val.{SFits}
+use lib.IntN.{ℤ, pos, ◌+ℤ◌, ◌-ℤ◌}
 use Rattle.arith.specs.Arith.{mod_z, wrap_i32}
-use Rattle.arith.proofs.Order.{pos_part, neg_part, add-pn, minus-pn, neg-pos_part, neg-neg_part, eq-pn, pn-fit}
-
-abbrev pub rest : ℤ → ℤ
-rest v = rem_z v (pos (2 ^ 32))
-
--- the machine's remainder
-pub rest-pos_part : (v : ℤ) → pos_part (rest v) ≡ pos_part v % 2 ^ 32
-rest-pos_part (pos n) = refl
-rest-pos_part (negsuc n) = neg-pos_part (pos (suc n % 2 ^ 32))
-
-pub rest-neg_part : (v : ℤ) → neg_part (rest v) ≡ neg_part v % 2 ^ 32
-rest-neg_part (pos n) = refl
-rest-neg_part (negsuc n) = neg-neg_part (pos (suc n % 2 ^ 32))
-
-pub rest-fits : (v : ℤ) → SFits w64 (rest v)
-rest-fits v = pn-fit (omega (arith, rest-pos_part v)) (omega (arith, rest-neg_part v))
+use Rattle.arith.proofs.Order.{pos_part, neg_part, add-pn, minus-pn, eq-pn}
 
 -- ---- unsigned: what mod_z says of v, and that nothing else has it
 
@@ -33,8 +16,7 @@ pub record Modulo (v : ℤ) (n : ℕ) : Type 0 where
 
 pub mod-is : (v : ℤ) → Modulo v (mod_z v (2 ^ 32))
 unfolding mod_z
-mod-is (pos n) = record { small = omega arith; alike = omega arith }
-mod-is (negsuc n) = record { small = omega arith; alike = omega arith }
+mod-is v = record { small = grind (arith, ints); alike = grind (arith, ints) }
 
 pub mod-only : (v : ℤ) (n : ℕ) → Modulo v n → n ≡ mod_z v (2 ^ 32)
 mod-only v n m = omega (arith, mod-is v)

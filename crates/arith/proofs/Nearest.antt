@@ -20,7 +20,7 @@ half-left a d D = go (ltb (2 * (a % d)) d) refl
     go true e = div-eq_of_lt (ltb-true (2 * (a % d)) d e)
     go false e = div-eq_of_lt-le d (omega (arith, ltb-false (2 * (a % d)) d e)) (omega (arith, mod-lt a D))
 
-by-rest : (a d : ℕ) → 0 < d → a / d + 2 * (a % d) / d ≡ nearest_up a d
+pub by-rest : (a d : ℕ) → 0 < d → a / d + 2 * (a % d) / d ≡ nearest_up a d
 unfolding nearest_up
 by-rest a d D = ap (λ (k : ℕ). a / d + k) (half-left a d D)
 

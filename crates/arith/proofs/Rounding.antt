@@ -3,6 +3,7 @@
 use Prim.Native.Nat.{ℕ, zero, suc, ◌+◌, ◌-◌, ◌*◌, ◌/◌, ◌^◌, ◌≤◌, ◌<◌}
 use mathlib.Core.Path.{◌≡◌, refl, sym, ap, ◌∙◌}
 use native.Mathlib.Nat.{le_refl, pow-suc, div-eq_of_lt, div-div-eq-div-mul, add-div_right}
+use Rattle.std.proofs.lemmas.Int.{ints}
 use native.Mathlib.Omega.{arith}
 use lib.IntN.{ℤ, pos, negsuc, neg_ℤ, nat_abs, ◌+ℤ◌, ◌-ℤ◌, +ℤ_idr}
 use lib.Signed.{mag, shr_z}
@@ -11,9 +12,9 @@ use mir.Syntax.{Width}
 use mir.Val.{SFits}
 use borrow.Author.Tests.{ne_eqb}
 use Rattle.arith.specs.Arith.{round_shift}
-use Rattle.arith.proofs.Magnitude.{by-sub, abs_neg, abs-shr}
+use Rattle.arith.proofs.Magnitude.{by-sub, abs-shr}
 use Rattle.arith.proofs.Bits.{shr-fits}
-use Rattle.arith.proofs.Order.{eq-pn, minus-pn, neg-pos_part, neg-neg_part}
+use Rattle.arith.proofs.Order.{eq-pn, neg-pos_part, neg-neg_part}
 
 -- ---- half of a number, rounded up
 
@@ -21,25 +22,17 @@ abbrev pub upper : ℤ → ℤ
 upper h = h -ℤ shr_z h 2
 
 upper_pos : (q : ℕ) → upper (pos q) ≡ pos (q - q / 2)
-upper_pos q = eq-pn (upper (pos q)) (pos (q - q / 2)) (omega (arith, minus-pn (pos q) (pos (q / 2))))
+upper_pos q = grind (arith, ints)
 
 upper-neg : (q : ℕ) → upper (negsuc q) ≡ neg_ℤ (pos (q - q / 2))
-upper-neg q =
-    eq-pn (upper (negsuc q)) (neg_ℤ (pos (q - q / 2)))
-    (omega (arith, minus-pn (negsuc q) (negsuc (q / 2)), neg-pos_part (pos (q - q / 2)), neg-neg_part (pos (q - q / 2))))
+upper-neg q = grind (arith, ints)
 
 pub upper-abs : (h : ℤ) → nat_abs (upper h) ≤ nat_abs h
-upper-abs (pos q) = rw (upper_pos q) (omega arith)
-upper-abs (negsuc q) = rw (upper-neg q, abs_neg (pos (q - q / 2))) (omega arith)
+upper-abs h = grind (arith, ints)
 
 -- by the measure of a width's range: the upper half of a number below zero is nearer to zero
 pub upper_fits : {w : Width} {h : ℤ} → SFits w h → SFits w (upper h)
-upper_fits {h = pos q} f = rw (upper_pos q) (record { sfits = omega (arith, f.sfits) })
-upper_fits {h = negsuc q} f = rw (upper-neg q) (record { sfits = omega (arith, f.sfits, mag-neg (q - q / 2)) })
-  where
-    mag-neg : (n : ℕ) → mag (neg_ℤ (pos n)) ≤ n
-    mag-neg zero = omega arith
-    mag-neg (suc n) = omega arith
+upper_fits {w} {h} f = grind (arith, ints)
 
 -- ---- R by two shifts
 

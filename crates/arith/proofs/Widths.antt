@@ -2,16 +2,15 @@
 -- A signed local shows as `to_z w (of_z w z)`, its bits read back (arith, Bits): these laws take such towers off.
 use Prim.Native.Nat.{ℕ, ◌^◌, ◌≤◌}
 use mathlib.Core.Path.{◌≡◌}
-use mathlib.Core.Bool.{not, cond}
+use Rattle.std.proofs.lemmas.Int.{ints}
 use native.Mathlib.Omega.{arith}
 use lib.Dec.{T, leb}
-use lib.IntN.{ℤ, pos, negsuc, nat_abs, ◌+ℤ◌, ◌*ℤ◌}
-use lib.Signed.{non_neg, lt_z}
+use lib.IntN.{ℤ, pos, nat_abs, ◌+ℤ◌, ◌*ℤ◌}
+use lib.Signed.{non_neg}
 use mir.Syntax.{Width, w16, w32, w64}
 use mir.Val.{Fits, SFits, hbits, to_z, of_z}
-use mir.Facts.{to_z-of_z, sfits_widen}
 use Rattle.arith.specs.Arith.{clamp_z}
-use Rattle.arith.proofs.Magnitude.{by_cond, abs-add, abs-mul-le, clamp-abs}
+use Rattle.arith.proofs.Magnitude.{abs-add, abs-mul-le}
 use Rattle.arith.proofs.Bits.{sfit, fit-abs, back, widened}
 
 -- what 64 bits hold of a number, and of one of 16 bits that is cast to 64
@@ -24,24 +23,16 @@ wide z = in64 (to_z w16 (of_z w16 z))
 -- ---- a cast from 64 bits to fewer, of a number that fits them
 
 pub narrows : {w : Width} {z : ℤ} → T (leb (hbits w) (hbits w64)) → SFits w z → SFits w (in64 z)
-narrows t f = simp (to_z-of_z (sfits_widen {w' = w64} t f)) f
+narrows h h1 = grind (arith, ints)
 
 pub narrowed : {w : Width} {z : ℤ} → T (leb (hbits w) (hbits w64)) → SFits w z → to_z w (of_z w (in64 z)) ≡ z
-narrowed t f = simp (to_z-of_z (sfits_widen {w' = w64} t f), to_z-of_z f)
+narrowed h h1 = grind (arith, ints)
 
 -- a clamp between two numbers of 32 bits unsigned is one, also where they are not in order
 pub clamp-unsigned : (v : ℤ) (lo hi : ℕ) → Fits w32 lo → Fits w32 hi
     → T (non_neg (clamp_z v (pos lo) (pos hi))) × Fits w32 (nat_abs (clamp_z v (pos lo) (pos hi)))
 unfolding clamp_z
-clamp-unsigned v lo hi f g = (
-  by_cond (λ z. T (non_neg z)) (lt_z v (pos lo)) (pos lo) (cond (lt_z (pos hi) v) (pos hi) v) (λ t. tt)
-      (λ t. by_cond (λ z. T (non_neg z)) (lt_z (pos hi) v) (pos hi) v (λ u. tt) (λ u. above v t)),
-  record { fits = omega (arith, clamp-abs v (pos lo) (pos hi) 4294967295 (omega (arith, f.fits)) (omega (arith, g.fits))) },
-)
-  where
-    above : (v : ℤ) → T (not (lt_z v (pos lo))) → T (non_neg v)
-    above (pos n) t = tt
-    above (negsuc n) t = t
+clamp-unsigned v lo hi f g = (grind (arith, ints), grind (arith, ints))
 
 -- ---- products of two 16-bit numbers
 

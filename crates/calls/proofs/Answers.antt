@@ -1,57 +1,45 @@
--- How answers cross: the first number that is not 0, and what starting and a block leave that fits places again. A count of samples is at most 2^63 - 1 where
--- nothing is refused, and the others are below it.
-use Prim.Native.Nat.{ℕ, ◌*◌, ◌≤◌, ◌<◌}
-use mathlib.Core.Path.{◌≡◌, refl, sym, ap, subst, ◌∙◌}
-use mathlib.Core.Bool.{Bool, true, false, cond}
+-- What each call answers, as its code comes to it: of a sheet or a design that cannot be read its number, and of one that can, what the crates below answer of
+-- it. The first number that is not 0 decides, and where there is none the places are written.
+use Prim.Native.Nat.{ℕ, ◌≤◌, ◌<◌}
+use mathlib.Core.Path.{◌≡◌, refl, sym, ap, ◌∙◌}
+use mathlib.Core.Bool.{Bool, true, false, cond, and-true}
 use mathlib.Core.List.{List, [], ◌∷◌}
 use native.Mathlib.Omega.{arith}
-use lib.Dec.{eqb}
-use lib.ListN.{length, take, length-append}
-use lib.Seq.{length-take-le}
-use lib.IntN.{ℤ}
-use borrow.Author.Tests.{eq-eqb, ne_eqb, eqb-true, eqb-false}
-use Rattle.arith.proofs.Both.{and_right}
+use lib.Dec.{eqb, leb}
+use lib.ListN.{length, drop, set}
+use lib.IntN.{ℤ, pos}
+use lib.Ieee.{Float}
+use borrow.Author.Tests.{ne_eqb, eqb-true, eqb-false, le-leb, lt-leb}
+use Rattle.kinds.specs.declared.FieldError.{FieldError}
+use Rattle.kinds.specs.Kinds.{field_number}
 use Rattle.kinds.specs.Answer.{answered, first_number}
-use Rattle.kinds.proofs.Answered.{first-is, then_is}
-use Rattle.params.specs.Refusal.{Refusal, first_of}
-use Rattle.params.specs.Judge.{Sheet, faults, judged}
-use Rattle.params.proofs.Faults.{Numbered, faults-numbered}
-use Rattle.params.proofs.Accepted.{no-faults as accepted-sheet}
-use Rattle.state.specs.declared.Pair.{Pair}
+use Rattle.params.specs.declared.Params.{Params}
+use Rattle.params.specs.declared.ParamError.{ParamError}
+use Rattle.params.specs.Refusal.{Refusal, nothing, first_of, error_refusal}
+use Rattle.params.proofs.Faults.{error-numbered}
+use Rattle.params.specs.Judge.{Sheet}
+use Rattle.design.specs.Refusal.{accepted, refused, sheet_refusal}
+use Rattle.design.specs.declared.SheetError.{SheetError}
+use Rattle.design.specs.Design.{sheet_of_design}
 use Rattle.state.specs.declared.Frontend.{Frontend}
-use Rattle.fields.specs.Fields.{no_fields, same_fields}
-use Rattle.state.specs.Start.{start_of, fresh}
-use Rattle.fixed.specs.Sample.{falls, made_by, next, after, emitted}
-use Rattle.fixed.specs.Block.{Block, pairs_of, accepted, block_of}
-use Rattle.state.specs.Check.{good_state, can_go_on, state_faults, pairs_taken}
-use Rattle.state.specs.Read.{read_of}
-use Rattle.state.proofs.Going.{Going, going}
-use Rattle.fixed.proofs.States.{run-going}
-use Rattle.fixed.proofs.Runs.{run-samples}
-use Rattle.fixed.proofs.Turns.{pairs-long}
-use Rattle.fixed.proofs.Refused.{number-first, no-faults, ran}
-use Rattle.state.proofs.Verdicts.{state-refuses, Faultless, faultless}
-use Rattle.places.specs.States.{Slices, state_answered, state_fits, state_of, read_state, has_places}
-use Rattle.places.proofs.Placed.{has-places}
-use Rattle.calls.specs.Calls.{state_number}
+use Rattle.fields.specs.Fields.{no_fields}
+use Rattle.state.specs.Start.{Start, start_of, fresh}
+use Rattle.state.specs.declared.FrontendError.{FrontendError}
+use Rattle.state.specs.Check.{block_faults, frontend_refusal}
+use Rattle.state.proofs.Answers.{refuses, frontend-numbered}
+use Rattle.state.specs.Read.{Read, read_of}
+use Rattle.fixed.specs.Block.{Block, block_of}
+use Rattle.fixed.proofs.Refused.{number-first}
+use Rattle.places.specs.Sheet.{sheet_number, sheet_written}
+use Rattle.places.specs.Rates.{design_number, design_at, gains_at}
+use Rattle.places.specs.States.{Slices, are_long, read_state, numbers_of, has_places, state_written}
+use Rattle.calls.specs.Calls.{sheet_at, start_answer, state_number, block_answer, read_answer, design_answer}
+use Rattle.calls.proofs.Numbers.{field-numbered, sheet-numbered}
+use Rattle.calls.proofs.NoState.{reading-number, block-number, state-read, state-fits}
+use Rattle.calls.proofs.Fitting.{started-placed, left, untouched}
+use Rattle.places.proofs.Readable.{state-long}
 
 -- ---- numbers of refusals
-
--- 9 is not 0, and neither is what comes before it
-nine : (a : ℕ) {n : ℕ} → n ≡ first_number a 9 → n ≡ 0 → ⊥
-nine a is z = go (eqb a 0) refl
-  where
-    go : (b : Bool) → eqb a 0 ≡ b → ⊥
-    go true e = let n : ◌≡◌ {A = ℕ} 9 0 = rw e at (sym is ∙ z) in omega arith
-    go false e = eqb-false a 0 e (rw e at (sym is ∙ z))
-
--- one number more behind two
-pub first_more : (a b more : ℕ) {n : ℕ} → (n ≡ 0 → ⊥) → n ≡ first_number a b → n ≡ first_number a (first_number b more)
-first_more a b more {n} h e = go (eqb a 0) refl
-  where
-    go : (t : Bool) → eqb a 0 ≡ t → n ≡ first_number a (first_number b more)
-    go true t = then_is a (first_number b more) (eqb-true a 0 t) (first-is b more h (rw t at e))
-    go false t = first-is a (first_number b more) h (rw t at e)
 
 -- none of two numbers
 pub none_of : (a b : ℕ) → first_number a b ≡ 0 → (a ≡ 0) × (b ≡ 0)
@@ -61,156 +49,187 @@ none_of a b e = go (eqb a 0) refl
     go true t = (eqb-true a 0 t, rw t at e)
     go false t = absurd (eqb-false a 0 t (rw t at e))
 
--- ---- slices that are no state
+-- ---- a sheet or a design that cannot be read
 
--- zeros, which are read of them
-abbrev zeros : Frontend
-zeros = fresh no_fields
+unread : (e : FieldError) → eqb (field_number e) 0 ≡ false
+unread e = ne_eqb (field_number e) 0 (λ z. absurd (omega (arith, field-numbered e)))
 
--- they are no state to go on from: a sheet that is accepted has no period of 0
-zeros-bad : (s : Sheet) → faults s ≡ [] → can_go_on s.params zeros ≡ false
-unfolding can_go_on fresh
-zeros-bad s e = go (can_go_on s.params zeros) refl
-  where
-    go : (b : Bool) → can_go_on s.params zeros ≡ b → can_go_on s.params zeros ≡ false
-    go true t =
-        let good = and_right (same_fields s.params no_fields) (good_state s.params zeros) t in
-        absurd (omega (arith, (going s.params zeros good).loop.low, (accepted-sheet s e).periods.above))
-    go false t = t
+pub start_unread : (l h g k : List ℤ) (state : Slices) (e : FieldError) → field_number e ≡ sheet_number l
+    → start_answer l h g k state ≡ record { number = field_number e; state = state }
+unfolding start_answer
+start_unread l h g k state e told = simp (sym told, unread e) refl
 
--- so what refuses them is 9, after 1 to 8 and 29
-zeros-refused : (s : Sheet) → (first_of (state_faults s zeros)).number ≡ first_number (judged s).number 9
-unfolding judged
-zeros-refused s = go (faults s) refl (faults-numbered s)
-  where
-    go : (rs : List Refusal) → faults s ≡ rs → Numbered (faults s) → (first_of (state_faults s zeros)).number ≡ first_number (first_of (faults s)).number 9
-    go [] e n = rw (e, zeros-bad s e) refl
-    go (r ∷ rs) e n =
-        let some : 0 < r.number = (subst Numbered e n).0 in
-        rw (e, ne_eqb r.number 0 (λ z. omega arith)) refl
+pub block_unread : (l h g k : List ℤ) (state : Slices) (values out answer : List ℤ) (e : FieldError) → field_number e ≡ sheet_number l
+    → block_answer l h g k state values out answer ≡ record { number = field_number e; state = state; output = out; answer = answer }
+unfolding block_answer
+block_unread l h g k state values out answer e told = simp (sym told, unread e) refl
 
-reading-first : (s : Sheet) (f : Frontend) → (read_of s f).refused.number ≡ (first_of (state_faults s f)).number
-unfolding read_of
-reading-first s f = go (eqb (first_of (state_faults s f)).number 0) refl
-  where
-    go : (b : Bool) → eqb (first_of (state_faults s f)).number 0 ≡ b → (read_of s f).refused.number ≡ (first_of (state_faults s f)).number
-    go true e = rw e (sym (eqb-true _ 0 e))
-    go false e = rw e refl
+pub read_unread : (l h g k : List ℤ) (state : Slices) (places : List ℤ) (e : FieldError) → field_number e ≡ sheet_number l
+    → read_answer l h g k state places ≡ record { number = field_number e; places = places }
+unfolding read_answer
+read_unread l h g k state places e told = simp (sym told, unread e) refl
 
-block-of-zeros : (s : Sheet) (values out : List ℤ) → (block_of s zeros values out).refused.number ≡ first_number (judged s).number 9
-block-of-zeros s values out =
-    let h : (first_of (state_faults s zeros)).number ≡ 0 → ⊥ = nine (judged s).number (zeros-refused s) in
-    let is = state-refuses s zeros (length values) (length out) (omega arith) refl in
-    number-first s zeros values out ∙ ap (λ (r : Refusal). r.number) (sym is) ∙ zeros-refused s
+pub design_unread : (rates : List Float) (fields h g k places : List ℤ) (e : FieldError) → field_number e ≡ design_number rates fields
+    → design_answer rates fields h g k places ≡ record { number = field_number e; places = places }
+unfolding design_answer
+design_unread rates fields h g k places e told = simp (sym told, unread e) refl
 
-module _ (s : Sheet) (state : Slices) where
-  -- what refuses the state that is read of any slices is what refuses the slices, and then the state that they say
-  read_number : (refused : Frontend → ℕ) → refused zeros ≡ first_number (judged s).number 9
-      → refused (read_state state) ≡ first_number (state_number s state) (refused (state_of state))
-  unfolding read_state state_number
-  read_number refused of-zeros = go (state_fits state) refl
+-- ---- starting
+
+pub start_refused : (l h g k : List ℤ) (state : Slices) (e : ParamError) → 0 ≡ sheet_number l
+    → ◌≡◌ {A = Start} (record { refused = error_refusal e; state = fresh no_fields }) (start_of (sheet_at l h g k))
+    → start_answer l h g k state ≡ record { number = (error_refusal e).number; state = state }
+unfolding start_answer
+start_refused l h g k state e read is = simp (sym read, sym is, refuses (error_refusal e) (error-numbered e)) refl
+
+-- the fresh state is written
+pub start_made : (l h g k : List ℤ) (state : Slices) (f : Frontend) → 0 ≡ sheet_number l
+    → ◌≡◌ {A = Start} (record { refused = nothing; state = f }) (start_of (sheet_at l h g k))
+    → start_answer l h g k state ≡ state_written f state
+unfolding start_answer state_written
+start_made l h g k state f read is =
+    let placed : has_places f ≡ true = ap (λ (a : Start). has_places a.state) is ∙ started-placed (sheet_at l h g k) in
+    rw (← read, ← is, placed, and-true (are_long state)) refl
+
+-- ---- reading and a block
+
+-- what is answered of the state that is read of any slices decides: of slices that are none it is 9, as of the slices themselves
+module _ (l h g k : List ℤ) (state : Slices) where
+  abbrev s : Sheet
+  s = sheet_at l h g k
+
+  read_behind : (places : List ℤ) → 0 ≡ sheet_number l
+      → let a : Read = read_of s (read_state state) in
+      read_answer l h g k state places
+      ≡ answered (first_number a.refused.number (cond (leb 3 (length places)) 0 11)) (pos a.period ∷ pos a.gain ∷ pos a.symbols ∷ drop 3 places) places
+  unfolding read_answer
+  read_behind places read = go (eqb (state_number s state) 0) refl
     where
-      go : (b : Bool) → state_fits state ≡ b
-          → refused (cond (state_fits state) (state_of state) zeros) ≡ first_number (cond (state_fits state) 0 (first_number (judged s).number 9))
-          (refused (state_of state))
-      go true e = rw e refl
-      go false e = rw e (of-zeros ∙ first-is (first_number (judged s).number 9) (refused (state_of state)) (nine (judged s).number refl) refl)
+      go : (b : Bool) → eqb (state_number s state) 0 ≡ b
+          → let a : Read = read_of s (read_state state) in
+          read_answer l h g k state places
+          ≡ answered (first_number a.refused.number (cond (leb 3 (length places)) 0 11)) (pos a.period ∷ pos a.gain ∷ pos a.symbols ∷ drop 3 places) places
+      go true t = rw (← read, t, state-read s state (eqb-true _ 0 t)) refl
+      go false t = simp (sym read, t, reading-number s state) refl
 
-  -- where nothing refuses the slices, they are a state
-  pub state-fits : state_number s state ≡ 0 → state_fits state ≡ true
-  unfolding state_number
-  state-fits z = go (state_fits state) refl
+  block_behind : (values out answer : List ℤ) → 0 ≡ sheet_number l
+      → let b : Block = block_of s (read_state state) values out in
+      let n : ℕ = first_number b.refused.number (cond (leb 4 (length answer)) 0 11) in
+      block_answer l h g k state values out answer
+      ≡ cond (eqb n 0)
+      (record { number = 0; state = numbers_of b.state; output = b.output; answer = pos b.count ∷ pos b.taken ∷ pos b.clips ∷ drop 3 answer })
+      (record { number = n; state = state; output = out; answer = answer })
+  unfolding block_answer
+  block_behind values out answer read = go (eqb (state_number s state) 0) refl
     where
-      go : (b : Bool) → state_fits state ≡ b → state_fits state ≡ true
-      go true e = e
-      go false e = absurd (nine (judged s).number refl (rw e at z))
+      go : (b : Bool) → eqb (state_number s state) 0 ≡ b
+          → let b : Block = block_of s (read_state state) values out in
+          let n : ℕ = first_number b.refused.number (cond (leb 4 (length answer)) 0 11) in
+          block_answer l h g k state values out answer
+          ≡ cond (eqb n 0)
+          (record { number = 0; state = numbers_of b.state; output = b.output; answer = pos b.count ∷ pos b.taken ∷ pos b.clips ∷ drop 3 answer })
+          (record { number = n; state = state; output = out; answer = answer })
+      go true t = rw (← read, t, state-read s state (eqb-true _ 0 t)) refl
+      go false t = simp (sym read, t, block-number s state values out) refl
 
-  -- what refuses slices that are none, and that nothing refuses those that are
-  pub no-state-is : state_fits state ≡ false → state_number s state ≡ first_number (judged s).number 9
-  unfolding state_number
-  no-state-is e = rw e refl
+  pub read_refused : (places : List ℤ) (e : FrontendError) → 0 ≡ sheet_number l
+      → ◌≡◌ {A = Read} (record { refused = frontend_refusal e; period = 0; gain = 0; symbols = 0 }) (read_of s (read_state state))
+      → read_answer l h g k state places ≡ record { number = (frontend_refusal e).number; places = places }
+  read_refused places e read told = simp (read_behind places read, sym told, refuses (frontend_refusal e) (frontend-numbered e)) refl
 
-  pub no-state-refuses : state_fits state ≡ false → {n : ℕ} → n ≡ state_number s state → n ≡ 0 → ⊥
-  no-state-refuses e is = nine (judged s).number (is ∙ no-state-is e)
+  pub read_short : (places : List ℤ) (period gain symbols : ℕ) → 0 ≡ sheet_number l
+      → ◌≡◌ {A = Read} (record { refused = nothing; period = period; gain = gain; symbols = symbols }) (read_of s (read_state state))
+      → length places < 3 → read_answer l h g k state places ≡ record { number = 11; places = places }
+  read_short places period gain symbols read told short = rw (read_behind places read, ← told, lt-leb 3 (length places) short) refl
 
-  pub state-passes : state_fits state ≡ true → state_number s state ≡ 0
-  unfolding state_number
-  state-passes e = rw e refl
+  pub read_made : (places : List ℤ) (period gain symbols : ℕ) → 0 ≡ sheet_number l
+      → ◌≡◌ {A = Read} (record { refused = nothing; period = period; gain = gain; symbols = symbols }) (read_of s (read_state state))
+      → 3 ≤ length places
+      → read_answer l h g k state places ≡ record { number = 0; places = pos period ∷ pos gain ∷ pos symbols ∷ drop 3 places }
+  read_made places period gain symbols read told long = rw (read_behind places read, ← told, le-leb 3 (length places) long) refl
 
-  pub state-read : state_fits state ≡ true → read_state state ≡ state_of state
-  unfolding read_state
-  state-read e = rw e refl
+  module _ (values out answer : List ℤ) (read : 0 ≡ sheet_number l) where
+    abbrev block : Block
+    block = block_of s (read_state state) values out
 
-  pub reading-number : (read_of s (read_state state)).refused.number ≡ first_number (state_number s state) (read_of s (state_of state)).refused.number
-  reading-number = read_number (λ f. (read_of s f).refused.number) (reading-first s zeros ∙ zeros-refused s)
+    -- a block that is refused, as its faults tell and as running it tells
+    refused_by_number : (n : ℕ) (o : List ℤ) → 0 < n → n ≡ block.refused.number → o ≡ out
+        → block_answer l h g k state values out answer ≡ record { number = n; state = state; output = o; answer = answer }
+    refused_by_number n o some is same = simp (block_behind values out answer read, sym is, ne_eqb n 0 (λ z. absurd (omega arith)), same) refl
 
-  pub block-number : (values out : List ℤ)
-      → (block_of s (read_state state) values out).refused.number ≡ first_number (state_number s state) (block_of s (state_of state) values out).refused.number
-  block-number values out = read_number (λ f. (block_of s f values out).refused.number) (block-of-zeros s values out)
+    pub block_refused : (e : FrontendError) → frontend_refusal e ≡ first_of (block_faults s (read_state state) (length values) (length out))
+        → block_answer l h g k state values out answer ≡ record { number = (frontend_refusal e).number; state = state; output = out; answer = answer }
+    block_refused e told =
+        refused_by_number (frontend_refusal e).number out (frontend-numbered e)
+        (ap (λ (r : Refusal). r.number) told ∙ sym (number-first s (read_state state) values out)) refl
 
--- ---- what comes behind numbers that refuse nothing
+    pub block_stopped : (e : FrontendError) (f : Frontend) (o : List ℤ) → ◌≡◌ {A = Block} (record { refused = frontend_refusal e; state = f; taken = 0; count = 0; clips = 0; output = o }) (block_of s (read_state state) values out)
+        → block_answer l h g k state values out answer ≡ record { number = (frontend_refusal e).number; state = state; output = o; answer = answer }
+    block_stopped e f o told =
+        let number : (frontend_refusal e).number ≡ block.refused.number = ap (λ (b : Block). b.refused.number) told in
+        let some : 0 < (frontend_refusal e).number = frontend-numbered e in
+        refused_by_number (frontend_refusal e).number o some number
+        (ap (λ (b : Block). b.output) told ∙ untouched s (read_state state) values out (λ z. absurd (omega arith)))
 
-pub then-answer : (a b : ℕ) (written places : List ℤ) → a ≡ 0 → answered (first_number a b) written places ≡ answered b written places
-then-answer a b written places z = rw (eq-eqb a 0 z) refl
+    -- one that nothing refuses, without places for its answer and with them
+    pub block_short : nothing ≡ first_of (block_faults s (read_state state) (length values) (length out)) → length answer < 4
+        → block_answer l h g k state values out answer ≡ record { number = 11; state = state; output = out; answer = answer }
+    block_short told short =
+        let none : block.refused.number ≡ 0 = number-first s (read_state state) values out ∙ ap (λ (r : Refusal). r.number) (sym told) in
+        rw (block_behind values out answer read, none, lt-leb 4 (length answer) short) refl
 
-pub then-state : (a b : ℕ) (written state : Slices) → a ≡ 0 → state_answered (first_number a b) written state ≡ state_answered b written state
-then-state a b written state z = rw (eq-eqb a 0 z) refl
+    pub block_made : (f : Frontend) (taken count clips : ℕ) (o : List ℤ)
+        → ◌≡◌ {A = Block} (record { refused = nothing; state = f; taken = taken; count = count; clips = clips; output = o }) (block_of s (read_state state) values out)
+        → 4 ≤ length answer
+        → block_answer l h g k state values out answer
+        ≡ record { number = 0; state = numbers_of f; output = o; answer = pos count ∷ pos taken ∷ pos clips ∷ drop 3 answer }
+    block_made f taken count clips o told long = rw (block_behind values out answer read, ← told, le-leb 4 (length answer) long) refl
 
--- ---- a state that starting gives has places
+  -- what it leaves fits: the state is written, and its counts are signed numbers
+  pub block_written : (values out : List ℤ) (f : Frontend) (taken count clips : ℕ) (o : List ℤ)
+      → ◌≡◌ {A = Block} (record { refused = nothing; state = f; taken = taken; count = count; clips = clips; output = o }) (block_of s (read_state state) values out)
+      → state_written f state ≡ record { number = 0; state = numbers_of f }
+  unfolding state_written
+  block_written values out f taken count clips o told =
+      let none : (block_of s (read_state state) values out).refused.number ≡ 0 = ap (λ (b : Block). b.refused.number) (sym told) in
+      let fits = none_of (state_number s state) _ (sym (block-number s state values out) ∙ none) in
+      let long : are_long state ≡ true = state-long state (state-fits s state fits.0) in
+      let placed : has_places f ≡ true = ap (λ (b : Block). has_places b.state) told ∙ (left s (read_state state) values out none).placed in
+      rw (long, placed) refl
 
-pub started-placed : (s : Sheet) → has_places (start_of s).state ≡ true
-unfolding start_of fresh
-started-placed s = has-places (start_of s).state
-    (record { symbols = omega arith; head = omega arith; oldest = omega arith; waiting = omega arith; samples = omega arith })
+  pub block_counts : (values out : List ℤ) (f : Frontend) (taken count clips : ℕ) (o : List ℤ)
+      → ◌≡◌ {A = Block} (record { refused = nothing; state = f; taken = taken; count = count; clips = clips; output = o }) (block_of s (read_state state) values out)
+      → (count ≤ 9223372036854775807) × (taken ≤ 9223372036854775807) × (clips ≤ length out)
+  block_counts values out f taken count clips o told =
+      let none : (block_of s (read_state state) values out).refused.number ≡ 0 = ap (λ (b : Block). b.refused.number) (sym told) in
+      let leaves = left s (read_state state) values out none in (
+        omega (arith, leaves.counted, ap (λ (b : Block). b.count) told),
+        omega (arith, leaves.taken, ap (λ (b : Block). b.taken) told),
+        omega (arith, leaves.clipped, ap (λ (b : Block). b.clips) told),
+      )
 
--- ---- so has one that a block gives
+-- three places, written one after the other
+pub three_written : (a b c : ℤ) (l : List ℤ) → 3 ≤ length l → set (set (set l 0 a) 1 b) 2 c ≡ a ∷ b ∷ c ∷ drop 3 l
+three_written a b c [] h = absurd (omega arith)
+three_written a b c (x ∷ []) h = absurd (omega arith)
+three_written a b c (x ∷ y ∷ []) h = absurd (omega arith)
+three_written a b c (x ∷ y ∷ z ∷ l) h = refl
 
--- at most one symbol a sample
-made-few : (s : Sheet) (f : Frontend) (x : Pair) → length (made_by s f x) ≤ 1
-unfolding made_by
-made-few s f x = go (falls f) refl
-  where
-    go : (b : Bool) → falls f ≡ b → length (made_by s f x) ≤ 1
-    go true e = rw e (omega arith)
-    go false e = rw e (omega arith)
+-- ---- a design
 
-few : (s : Sheet) (f : Frontend) (xs : List Pair) → length (emitted s f xs) ≤ length xs
-unfolding emitted
-few s f [] = omega arith
-few s f (x ∷ xs) = omega (arith, length-append (made_by s f x) (emitted s (next s f x) xs), made-few s f x, few s (next s f x) xs)
+pub design_refused : (rates : List Float) (fields h g k places : List ℤ) (e : SheetError) → 0 ≡ design_number rates fields
+    → refused (sheet_refusal e) ≡ sheet_of_design (design_at rates fields) (gains_at fields) h g k
+    → design_answer rates fields h g k places ≡ record { number = (sheet_refusal e).number; places = places }
+unfolding design_answer
+design_refused rates fields h g k places e read is =
+    simp (sym read, sym is, ne_eqb (sheet_refusal e).number 0 (λ z. absurd (omega (arith, sheet-numbered e)))) refl
 
--- what a block without a refusal leaves
-pub record Left (b : Block) (places : ℕ) : Type 0 where
-  pub placed : has_places b.state ≡ true
-  pub taken : b.taken ≤ 9223372036854775807
-  pub counted : b.count ≤ 9223372036854775807
-  pub written : 20 * b.count ≤ places
+-- its sheet is written
+pub design_made : (rates : List Float) (fields h g k places : List ℤ) (p : Params) → 0 ≡ design_number rates fields
+    → accepted p ≡ sheet_of_design (design_at rates fields) (gains_at fields) h g k
+    → design_answer rates fields h g k places ≡ sheet_written p places
+unfolding design_answer sheet_written
+design_made rates fields h g k places p read is = rw (← read, ← is) refl
 
-module _ (s : Sheet) (f : Frontend) (values out : List ℤ) where
-  -- a number other than 0: nothing was written
-  pub untouched : ((block_of s f values out).refused.number ≡ 0 → ⊥) → (block_of s f values out).output ≡ out
-  unfolding block_of
-  untouched h = rw (ne_eqb _ 0 (λ z. h (number-first s f values out ∙ z))) refl
-
-  pub left : (block_of s f values out).refused.number ≡ 0 → Left (block_of s f values out) (length out)
-  unfolding accepted pairs_taken
-  left none =
-      let g : Faultless s f (length values) (length out) = faultless s f (length values) (length out) (no-faults s f values out none) in
-      let n : ℕ = pairs_taken (length values) (length out) in
-      let xs : List Pair = take n (pairs_of values) in
-      let long : length xs ≡ n = length-take-le n (pairs_of values) (omega (arith, pairs-long values)) in
-      let to : Going s.params (after s f xs) = run-going s g.sheet f xs (going s.params f g.good) in
-      let samples : (after s f xs).samples ≤ 9223372036854775807 = omega (arith, run-samples s f xs, long, g.sizes.few) in
-      rw (ran s f values out none)
-      (record {
-        placed = has-places (after s f xs) (record {
-          symbols = omega (arith, to.few);
-          head = omega (arith, to.head, g.sheet.lengths.good.most);
-          oldest = omega (arith, to.oldest);
-          waiting = omega (arith, to.waiting);
-          samples = samples;
-        });
-        taken = omega (arith, g.sizes.few);
-        counted = omega (arith, few s f xs, long, g.sizes.few);
-        written = omega (arith, few s f xs, long);
-      })
+-- what a block answers and leaves
+pub ruleset blocks = (block_unread, block_refused, block_stopped, block_short, block_made, block_written, block_counts, three_written)

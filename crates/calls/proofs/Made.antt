@@ -17,7 +17,8 @@ use borrow.Author.Tests.{eq-eqb}
 use Rattle.arith.specs.Arith.{mod_z, wrap_i32}
 use Rattle.arith.proofs.Order.{fit-pn, minus-pn}
 use Rattle.arith.proofs.Modulus.{mod-is}
-use Rattle.kinds.specs.Kinds.{at, u8, u32, i32, is_kind}
+use Rattle.kinds.specs.declared.Kind.TheVariants.{U8, U32, I32}
+use Rattle.kinds.specs.Kinds.{at, is_kind}
 use Rattle.kinds.proofs.OfKind.{own-u8, own-u32, u8_is, u32-is, i32-is}
 use Rattle.kinds.proofs.Readable.{readable-at}
 use Rattle.params.specs.declared.Params.{Params}
@@ -43,52 +44,52 @@ use Rattle.calls.proofs.Answers.{none_of}
 
 -- ---- the types of a design's registers
 
-nominal-is : (sps : Float) → is_kind u32 (pos (period_nominal sps)) ≡ true
+nominal-is : (sps : Float) → is_kind U32 (pos (period_nominal sps)) ≡ true
 unfolding period_nominal
 nominal-is sps = u32-is _ (to_unsigned-lt 32 _)
 
-min-is : (sps : Float) → is_kind u32 (pos (period_min sps)) ≡ true
+min-is : (sps : Float) → is_kind U32 (pos (period_min sps)) ≡ true
 unfolding period_min
 min-is sps = u32-is _ (to_unsigned-lt 32 _)
 
-max-is : (sps : Float) → is_kind u32 (pos (period_max sps)) ≡ true
+max-is : (sps : Float) → is_kind U32 (pos (period_max sps)) ≡ true
 unfolding period_max
 max-is sps = u32-is _ (to_unsigned-lt 32 _)
 
-target_is : (rms : Float) → is_kind u32 (pos (agc_target rms)) ≡ true
+target_is : (rms : Float) → is_kind U32 (pos (agc_target rms)) ≡ true
 unfolding agc_target
 target_is rms = u32-is _ (to_unsigned-lt 32 _)
 
 -- a number of 31 bits and a sign
-small_is : (z : ℤ) → mag z < 2147483648 → is_kind i32 z ≡ true
+small_is : (z : ℤ) → mag z < 2147483648 → is_kind I32 z ≡ true
 small_is z h = let pn = fit-pn {w = w32} {z = z} (record { sfits = h }) in i32-is z (omega (arith, pn.0)) (omega (arith, pn.1))
 
-integrator-is : (sps : Float) → is_kind i32 (integrator_max sps) ≡ true
+integrator-is : (sps : Float) → is_kind I32 (integrator_max sps) ≡ true
 unfolding integrator_max
-integrator-is sps = small_is _ (to_signed_in 31 _)
+integrator-is sps = small_is (integrator_max sps) (to_signed_in 31 _)
 
-wrapped-is : (v : ℤ) → is_kind i32 (wrap_i32 v) ≡ true
+wrapped-is : (v : ℤ) → is_kind I32 (wrap_i32 v) ≡ true
 unfolding wrap_i32
 wrapped-is v =
     let m : ℕ = mod_z (v +ℤ pos (2 ^ 31)) (2 ^ 32) in
     let r : ℤ = pos m -ℤ pos (2 ^ 31) in
     i32-is r (omega (arith, mod-is (v +ℤ pos (2 ^ 31)), minus-pn (pos m) (pos (2 ^ 31)))) (omega (arith, minus-pn (pos m) (pos (2 ^ 31))))
 
-step_is : (offset rate : Float) → is_kind i32 (nco_step offset rate) ≡ true
+step_is : (offset rate : Float) → is_kind I32 (nco_step offset rate) ≡ true
 unfolding nco_step
 step_is offset rate = wrapped-is _
 
 -- ---- the types of a design's sheet
 
 module _ (rates : List Float) (fields : List ℤ) (e : design_number rates fields ≡ 0) where
-  field-kind : (n : ℕ) → n < 8 → is_kind (get_or design_kinds n 0) (at fields n) ≡ true
+  field-kind : (n : ℕ) → n < 8 → is_kind (get_or design_kinds n U8) (at fields n) ≡ true
   field-kind n h = (readable-at design_kinds fields (readable-design rates fields e).kinds n h).is
 
-  field-u8 : (n : ℕ) → is_kind u8 (at fields n) ≡ true → is_kind u8 (pos (nat_abs (at fields n))) ≡ true
-  field-u8 n is = rw (own-u8 (at fields n) is) is
+  field-u8 : (n : ℕ) → is_kind U8 (at fields n) ≡ true → is_kind U8 (pos (nat_abs (at fields n))) ≡ true
+  field-u8 n is = subst (λ (z : ℤ). is_kind U8 z ≡ true) (sym (own-u8 (at fields n) is)) is
 
-  field-u32 : (n : ℕ) → is_kind u32 (at fields n) ≡ true → is_kind u32 (pos (nat_abs (at fields n))) ≡ true
-  field-u32 n is = rw (own-u32 (at fields n) is) is
+  field-u32 : (n : ℕ) → is_kind U32 (at fields n) ≡ true → is_kind U32 (pos (nat_abs (at fields n))) ≡ true
+  field-u32 n is = subst (λ (z : ℤ). is_kind U32 z ≡ true) (sym (own-u32 (at fields n) is)) is
 
   typed : (sps : Float) → TypedSheet (sheetMade (registers_of (design_at rates fields) sps) (gains_at fields))
   unfolding sheetMade registers_of design_at gains_at

@@ -1,3 +1,4 @@
 -- What a reader has to believe of the calls: what each answers, and what is claimed of a sheet that a design's call wrote.
+pub mod Refusal
 pub mod Calls
 pub mod Made

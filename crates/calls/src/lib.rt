@@ -1,34 +1,37 @@
 // What the calls of the interface to C answer: judging, starting, the block, reading, a retune, the offset and designs, over numbers and lent slices.
 //
-// No call asks anything of its caller: whatever is lent, it answers, with a refusal's number where something is wrong, and then it has touched no place.
+// No call asks anything of its caller: whatever is lent, it answers, with an error where something is wrong, and then it has touched no place.
 // 18 and 19 refuse a sheet or a design that cannot be read, before 14 to 17 and the judge's 1 to 8 and 29; slices that are no state are refused by 9, after
-// the judge's. A state is lent as three slices: its places, its line and its errors (crates/places).
+// the judge's. A sheet is lent as its places and three banks, and a state as three slices: its places, its line and its errors (crates/places). C lends them
+// one by one, so each call takes them so, and makes one value of them.
 #![tactic(auto)]
 
-ghost use Rattle.std.specs.Prelude.{◌≡◌};
-ghost use Rattle.kinds.specs.Answer.{first_number};
-ghost use Rattle.params.specs.Judge.{sheet_of, judged};
-ghost use Rattle.places.specs.States.{slices};
-ghost use Rattle.calls.specs.Calls.{judge_number, start_answer, block_answer, read_answer, ask_answer, commit_answer, offset_answer, design_answer};
+mod refusal;
 
-use design::SheetVerdict;
-use params::Params;
-use places::{ReadDesign, ReadSheet};
+ghost use Rattle.std.specs.Prelude.{◌≡◌, IfOk};
+ghost use Rattle.kinds.specs.Answer.{answer_number};
+ghost use Rattle.places.specs.States.{slices, state_of};
+ghost use Rattle.calls.specs.Refusal.{call_number};
+ghost use Rattle.calls.specs.Calls.{judge_number, start_answer, state_number, block_answer, read_answer, ask_answer, commit_answer, offset_answer, design_answer};
 
-// The number of the sheet's first fault, or 0 (RULES 1.4).
-pub fn judge(sheet: &[i64], h: &[i32], g: &[i32], k: &[i32]) -> u32
-    ensures { result ≡ judge_number sheet.now h.now g.now k.now }
+use params::Sheet;
+use places::{PlacesError, Slices};
+pub use refusal::CallError;
+use state::Frontend;
+
+// Judging (RULES 1.4).
+#[tactic(auto, using(crate::proofs::Numbers::numbered), unfolding(crate::specs::Calls::judge_number))]
+pub fn judge(sheet: &[i64], h: &[i32], g: &[i32], k: &[i32]) -> Result<(), CallError>
+    ensures { answer_number call_number result ≡ judge_number sheet.now h.now g.now k.now }
 {
-    match places::read_sheet(sheet) {
-        ReadSheet::Refused(number) => number,
-        ReadSheet::Sheet(p) => {
-            let verdict = p.validate(h, g, k);
-            verdict.number()
-        }
-    }
+    let params = places::read_sheet(sheet)?;
+    let sheet = Sheet { params, h, g, k };
+    sheet.validate()?;
+    Ok(())
 }
 
 // Writes the fresh state of a sheet (RULES 3.1).
+#[tactic(auto, using(crate::proofs::Answers::start_unread, crate::proofs::Answers::start_refused, crate::proofs::Answers::start_made))]
 pub fn start(
     sheet: &[i64],
     h: &[i32],
@@ -37,28 +40,20 @@ pub fn start(
     state: &mut [i64],
     line: &mut [i32],
     errors: &mut [i32],
-) -> u32
-    ensures { record { number = result; state = slices state.new line.new errors.new }
+) -> Result<(), CallError>
+    ensures { record { number = answer_number call_number result; state = slices state.new line.new errors.new }
         ≡ start_answer sheet.now h.now g.now k.now
         (slices state.old line.old errors.old) }
 {
-    match places::read_sheet(sheet) {
-        ReadSheet::Refused(number) => number,
-        ReadSheet::Sheet(p) => {
-            let started = state::Frontend::new(p, h, g, k);
-            let verdict = started.verdict;
-            let refused = verdict.number();
-            if refused != 0 {
-                return refused;
-            }
-            let fresh = started.state;
-            places::write_state(fresh, &mut *state, &mut *line, &mut *errors)
-        }
-    }
+    let params = places::read_sheet(sheet)?;
+    let fresh = Frontend::new(&Sheet { params, h, g, k })?;
+    places::write_state(&fresh, state, line, errors)?;
+    Ok(())
 }
 
 // Takes a block of samples, I before Q, from the state on, as many of them as the output has places for; writes 20 places a symbol, the state after it, and
 // how many symbols it wrote, pairs it took and clips it counted to the first three of four places (RULES 4).
+#[tactic(auto, using(crate::proofs::Answers::blocks))]
 pub fn block(
     sheet: &[i64],
     h: &[i32],
@@ -70,9 +65,9 @@ pub fn block(
     values: &[i16],
     out: &mut [i64],
     answer: &mut [i64],
-) -> u32
+) -> Result<(), CallError>
     ensures { record {
-      number = result;
+      number = answer_number call_number result;
       state = slices state.new line.new errors.new;
       output = out.new;
       answer = answer.new;
@@ -80,38 +75,30 @@ pub fn block(
         ≡ block_answer sheet.now h.now g.now k.now
         (slices state.old line.old errors.old) values.now out.old answer.old }
 {
-    match places::read_sheet(sheet) {
-        ReadSheet::Refused(number) => number,
-        ReadSheet::Sheet(p) => {
-            let before = places::read_state(&*state, &*line, &*errors);
-            // Without places for the answer the block is not run: what it would refuse comes first, and then nothing may be written.
-            if answer.len() < 4 {
-                let refused = before
-                    .check_block(p, h, g, k, values.len(), out.len())
-                    .number();
-                if refused != 0 {
-                    return refused;
-                }
-                return 11;
-            }
-            let done = fixed::process(before, p, h, g, k, values, &mut *out);
-            let verdict = done.verdict;
-            let refused = verdict.number();
-            if refused != 0 {
-                return refused;
-            }
-            // It writes: the slices are as long as a state, and 12 refuses the block after which a count has no place.
-            let after = done.state;
-            places::write_state(after, &mut *state, &mut *line, &mut *errors);
-            answer[0] = done.count as i64;
-            answer[1] = done.taken as i64;
-            answer[2] = done.clips as i64;
-            0
-        }
+    let params = places::read_sheet(sheet)?;
+    let sheet = Sheet { params, h, g, k };
+    let lent = Slices {
+        places: &*state,
+        line: &*line,
+        errors: &*errors,
+    };
+    let mut f = lent.read();
+    // Without places for the answer the block is not run: what it would refuse comes first, and then nothing may be written.
+    if answer.len() < 4 {
+        f.check_block(&sheet, values.len(), out.len())?;
+        return Err(CallError::Places(PlacesError::Short));
     }
+    let done = fixed::process(&mut f, &sheet, values, out)?;
+    // It writes: the slices are as long as a state, and 12 refuses the block after which a count has no place.
+    places::write_state(&f, state, line, errors)?;
+    answer[0] = done.count as i64;
+    answer[1] = done.taken as i64;
+    answer[2] = done.clips as i64;
+    Ok(())
 }
 
 // Writes period, gain and symbols of a state to three places (RULES 4.3).
+#[tactic(auto, using(crate::proofs::Answers::read_unread, crate::proofs::Answers::read_refused, crate::proofs::Answers::read_short, crate::proofs::Answers::read_made, crate::proofs::Answers::three_written, crate::proofs::Fitting::read_small))]
 pub fn read(
     sheet: &[i64],
     h: &[i32],
@@ -121,44 +108,42 @@ pub fn read(
     line: &[i32],
     errors: &[i32],
     answer: &mut [i64],
-) -> u32
-    ensures { record { number = result; places = answer.new }
+) -> Result<(), CallError>
+    ensures { record { number = answer_number call_number result; places = answer.new }
         ≡ read_answer sheet.now h.now g.now k.now
         (slices state.now line.now errors.now) answer.old }
 {
-    match places::read_sheet(sheet) {
-        ReadSheet::Refused(number) => number,
-        ReadSheet::Sheet(p) => {
-            let reading = places::read_state(state, line, errors).read(p, h, g, k);
-            let verdict = reading.verdict;
-            let refused = verdict.number();
-            if refused != 0 {
-                return refused;
-            }
-            if answer.len() < 3 {
-                return 11;
-            }
-            answer[0] = reading.period as i64;
-            answer[1] = reading.gain as i64;
-            answer[2] = reading.symbols as i64;
-            0
-        }
+    let params = places::read_sheet(sheet)?;
+    let lent = Slices {
+        places: state,
+        line,
+        errors,
+    };
+    let reading = lent.read().read(&Sheet { params, h, g, k })?;
+    if answer.len() < 3 {
+        return Err(CallError::Places(PlacesError::Short));
     }
+    answer[0] = i64::from(reading.period);
+    answer[1] = i64::from(reading.gain);
+    answer[2] = reading.symbols as i64;
+    Ok(())
 }
 
-// 9 of slices that are no state, behind what judging refuses of the sheet.
-fn no_state(p: Params, h: &[i32], g: &[i32], k: &[i32]) -> u32
-    ensures { result ≡ first_number (judged (sheet_of p h.now g.now k.now)).number 9 }
+// The state of some slices. Where they are none, what judging refuses of the sheet comes first, and then 9.
+#[tactic(auto, using(crate::proofs::Numbers::numbered), unfolding(crate::specs::Calls::state_number, places::specs::States::read_state))]
+fn state_of(sheet: &Sheet<'_>, lent: &Slices<'_>) -> Result<Frontend, CallError>
+    ensures refused { answer_number call_number result ≡ state_number sheet.now lent.now }
+    ensures read { IfOk result (λ f. f ≡ state_of lent.now) }
 {
-    let verdict = p.validate(h, g, k);
-    let refused = verdict.number();
-    if refused != 0 {
-        return refused;
+    if !lent.is_state() {
+        sheet.validate()?;
+        return Err(CallError::Places(PlacesError::State));
     }
-    9
+    Ok(lent.read())
 }
 
 // Asks whether the sheet may be put into a state, and writes the ticket to one place (RULES 4.4).
+#[tactic(auto, using(crate::proofs::Numbers::numbered, crate::proofs::Fitting::ticket_small), unfolding(crate::specs::Calls::ask_answer))]
 pub fn ask(
     sheet: &[i64],
     h: &[i32],
@@ -168,33 +153,29 @@ pub fn ask(
     line: &[i32],
     errors: &[i32],
     answer: &mut [i64],
-) -> u32
-    ensures { record { number = result; places = answer.new }
+) -> Result<(), CallError>
+    ensures { record { number = answer_number call_number result; places = answer.new }
         ≡ ask_answer sheet.now h.now g.now k.now
         (slices state.now line.now errors.now) answer.old }
 {
-    match places::read_sheet(sheet) {
-        ReadSheet::Refused(number) => number,
-        ReadSheet::Sheet(p) => {
-            if !places::is_state(state, line, errors) {
-                return no_state(p, h, g, k);
-            }
-            let asked = retune::ask(places::read_state(state, line, errors), p, h, g, k);
-            let verdict = asked.verdict;
-            let refused = verdict.number();
-            if refused != 0 {
-                return refused;
-            }
-            if answer.len() < 1 {
-                return 11;
-            }
-            answer[0] = asked.ticket as i64;
-            0
-        }
+    let params = places::read_sheet(sheet)?;
+    let sheet = Sheet { params, h, g, k };
+    let lent = Slices {
+        places: state,
+        line,
+        errors,
+    };
+    let f = state_of(&sheet, &lent)?;
+    let ticket = retune::ask(&f, &sheet)?;
+    if answer.is_empty() {
+        return Err(CallError::Places(PlacesError::Short));
     }
+    answer[0] = ticket as i64;
+    Ok(())
 }
 
 // Puts the sheet into a state: writes it to the held sheet's places, and leaves all others (RULES 4.5).
+#[tactic(auto, using(crate::proofs::Numbers::numbered), unfolding(crate::specs::Calls::commit_answer))]
 pub fn commit(
     ticket: u64,
     sheet: &[i64],
@@ -204,31 +185,27 @@ pub fn commit(
     state: &mut [i64],
     line: &[i32],
     errors: &[i32],
-) -> u32
-    ensures { record { number = result; places = state.new }
+) -> Result<(), CallError>
+    ensures { record { number = answer_number call_number result; places = state.new }
         ≡ commit_answer ticket sheet.now h.now g.now k.now
         (slices state.old line.now errors.now) }
 {
-    match places::read_sheet(sheet) {
-        ReadSheet::Refused(number) => number,
-        ReadSheet::Sheet(p) => {
-            if !places::is_state(&*state, line, errors) {
-                return no_state(p, h, g, k);
-            }
-            let before = places::read_state(&*state, line, errors);
-            let done = retune::commit(before, ticket, p, h, g, k);
-            let verdict = done.verdict;
-            let refused = verdict.number();
-            if refused != 0 {
-                return refused;
-            }
-            // It writes: 18 places stand behind the first ten.
-            places::write_sheet(p, &mut state[10..])
-        }
-    }
+    let params = places::read_sheet(sheet)?;
+    let sheet = Sheet { params, h, g, k };
+    let lent = Slices {
+        places: &*state,
+        line,
+        errors,
+    };
+    let mut f = state_of(&sheet, &lent)?;
+    retune::commit(&mut f, ticket, &sheet)?;
+    // It writes: 18 places stand behind the first ten.
+    places::write_sheet(f.params, &mut state[10..])?;
+    Ok(())
 }
 
 // Writes the offset of a period to one place (RULES 6.1).
+#[tactic(auto, using(crate::proofs::Numbers::numbered), unfolding(crate::specs::Calls::offset_answer))]
 pub fn offset(
     sheet: &[i64],
     h: &[i32],
@@ -236,30 +213,21 @@ pub fn offset(
     k: &[i32],
     period: u32,
     answer: &mut [i64],
-) -> u32
-    ensures { record { number = result; places = answer.new }
+) -> Result<(), CallError>
+    ensures { record { number = answer_number call_number result; places = answer.new }
         ≡ offset_answer sheet.now h.now g.now k.now period answer.old }
 {
-    match places::read_sheet(sheet) {
-        ReadSheet::Refused(number) => number,
-        ReadSheet::Sheet(p) => {
-            let offset = offset::of_period(p, h, g, k, period);
-            let verdict = offset.verdict;
-            let refused = verdict.number();
-            if refused != 0 {
-                return refused;
-            }
-            if answer.len() < 1 {
-                return 11;
-            }
-            let parts = offset.parts;
-            answer[0] = parts;
-            0
-        }
+    let params = places::read_sheet(sheet)?;
+    let parts = offset::of_period(&Sheet { params, h, g, k }, period)?;
+    if answer.is_empty() {
+        return Err(CallError::Places(PlacesError::Short));
     }
+    answer[0] = parts;
+    Ok(())
 }
 
 // Writes the sheet of a design to the first 18 places (RULES 6.4). The design comes as five rates and eight fields.
+#[tactic(auto, using(crate::proofs::Answers::design_unread, crate::proofs::Answers::design_refused, crate::proofs::Answers::design_made))]
 pub fn design(
     rates: &[f64],
     fields: &[i64],
@@ -267,18 +235,12 @@ pub fn design(
     g: &[i32],
     k: &[i32],
     sheet: &mut [i64],
-) -> u32
-    ensures { record { number = result; places = sheet.new }
+) -> Result<(), CallError>
+    ensures { record { number = answer_number call_number result; places = sheet.new }
         ≡ design_answer rates.now fields.now h.now g.now k.now sheet.old }
 {
-    match places::read_design(rates, fields) {
-        ReadDesign::Refused(number) => number,
-        ReadDesign::Design { design, gains } => {
-            let verdict = design.params(gains, h, g, k);
-            match verdict {
-                SheetVerdict::Refused(e) => e.number(),
-                SheetVerdict::Accepted(p) => places::write_sheet(p, &mut *sheet),
-            }
-        }
-    }
+    let (design, gains) = places::read_design(rates, fields)?;
+    let params = design.params(gains, h, g, k)?;
+    places::write_sheet(params, sheet)?;
+    Ok(())
 }

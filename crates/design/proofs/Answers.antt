@@ -1,100 +1,80 @@
--- The first of some faults, or what was asked for: which answer a list of faults gives, and what an answer says of the list.
+-- The first of some faults, or what was asked for: a design's faults are looked at kind by kind, and come before the judge's.
+-- Every fault of the judge has a number other than 0, so where it tells of none there is none.
 use Prim.Native.Nat.{◌<◌}
 use mathlib.Core.Path.{◌≡◌, refl, sym, ap, ◌∙◌, subst}
-use mathlib.Core.Bool.{true, false, ◌&&◌}
 use mathlib.Core.List.{List, [], ◌∷◌, ◌++◌, flatten, map}
 use native.Mathlib.Omega.{arith}
-use lib.Dec.{leb}
 use lib.IntN.{ℤ}
-use lib.Ieee.{Float}
-use Rattle.params.specs.declared.Params.{Params}
-use Rattle.params.specs.Refusal.{Refusal, first_of}
-use Rattle.params.specs.Judge.{good_taps, sheet_of, faults, judged}
+use Rattle.params.specs.declared.ParamError.{ParamError}
+use Rattle.params.specs.Refusal.{Refusal, nothing, first_of, error_refusal}
+use Rattle.params.specs.Judge.{sheet_of, faults, judged}
+use Rattle.params.proofs.Faults.{first-none, faults-numbered, error-numbered}
 use Rattle.design.specs.declared.Design.{Design}
 use Rattle.design.specs.declared.DesignRegisters.{DesignRegisters}
 use Rattle.design.specs.declared.Gains.{Gains}
-use Rattle.design.specs.Refusal.{DesignRefusal, float_refusal, judge_refusal, Answer, accepted, refused}
+use Rattle.design.specs.declared.SheetError.{SheetError}
+use Rattle.design.specs.Refusal.{DesignRefusal, judge_refusal, Answer, accepted, refused, sheet_answer}
+use Rattle.std.specs.Prelude.{Err}
 use Rattle.design.specs.Registers.{sps_of, registers_of}
-use Rattle.design.specs.Design.{first_or, good_sps, good_trim, design_faults, design_of, params_of, judge_faults, judged_of, sheet_of_design}
+use Rattle.design.specs.Design.{first_or, design_faults, design_of, params_of, judge_faults, sheet_of_design}
 
--- ---- a design's answer, by the first of its tests that fails
+-- ---- faults that are looked at kind by kind
 
-pub at-sps : (d : Design) {sps : Float} → sps ≡ sps_of d → good_sps sps ≡ false → refused (float_refusal 14 (sps ∷ [])) ≡ design_of d
-unfolding design_of design_faults flatten
-at-sps d e t = rw e (rw (sym (ap good_sps e) ∙ t) refl)
+pub first_kind : (l : List DesignRefusal) (ls : List (List DesignRefusal)) → flatten (l ∷ ls) ≡ l ++ flatten ls
+unfolding flatten
+first_kind l ls = refl
 
-pub record Three (d : Design) : Type 0 where
-  pub sps : good_sps (sps_of d) ≡ true
-  pub taps : good_taps d.taps ≡ true
-  pub bits : leb 2 d.bits && leb d.bits 8 ≡ true
+pub no_kind : flatten {A = DesignRefusal} [] ≡ []
+unfolding flatten
+no_kind = refl
 
-pub at-taps : (d : Design) → good_sps (sps_of d) ≡ true → good_taps d.taps ≡ false → refused (float_refusal 15 []) ≡ design_of d
-unfolding design_of design_faults flatten
-at-taps d s t = rw (s, t) refl
+pub ruleset one_by_one = (first_kind, no_kind)
 
-pub at_bits : (d : Design) → good_sps (sps_of d) ≡ true → good_taps d.taps ≡ true → leb 2 d.bits && leb d.bits 8 ≡ false
-    → refused (float_refusal 16 []) ≡ design_of d
-unfolding design_of design_faults flatten
-at_bits d s t b = rw (s, t, b) refl
-
-pub at-trim : (d : Design) → Three d → good_trim d.trim ≡ false → refused (float_refusal 17 (d.trim ∷ [])) ≡ design_of d
-unfolding design_of design_faults flatten
-at-trim d p t = rw (p.sps, p.taps, p.bits, t) refl
-
-pub at-end : (d : Design) → Three d → good_trim d.trim ≡ true → accepted (registers_of d (sps_of d)) ≡ design_of d
-unfolding design_of design_faults flatten
-at-end d p t = rw (p.sps, p.taps, p.bits, t) refl
-
--- ---- the judge's answer
-
-first-judged : {A : Type 0} (rs : List Refusal) (r : Refusal) (a : A) → 0 < r.number → r ≡ first_of rs
-    → refused (judge_refusal r) ≡ first_or (map judge_refusal rs) a
-first-judged [] r a h e = absurd (omega (arith, ap (λ (q : Refusal). q.number) e))
-first-judged (q ∷ rs) r a h e = ap (λ (q : Refusal). refused (judge_refusal q)) e
-
-pub judge-refuses : (p : Params) (h g k : List ℤ) {r : Refusal} → 0 < r.number → r ≡ judged (sheet_of p h g k) → refused (judge_refusal r) ≡ judged_of p h g k
-unfolding judged_of judge_faults judged
-judge-refuses p h g k {r} n e = first-judged (faults (sheet_of p h g k)) r p n e
-
-pub judge-accepts : (p : Params) (h g k : List ℤ) → faults (sheet_of p h g k) ≡ [] → accepted p ≡ judged_of p h g k
-unfolding judged_of judge_faults
-judge-accepts p h g k e = rw e refl
-
--- ---- both, one after the other
+-- ---- a design's, then the judge's
 
 abbrev IsAccepted : {A : Type 0} → Answer A → Type 0
 IsAccepted (accepted a) = Unit {0}
 IsAccepted (refused r) = ⊥
 
--- what an answer has, or something else
-abbrev refusal_or : {A : Type 0} → DesignRefusal → Answer A → DesignRefusal
-refusal_or r (accepted a) = r
-refusal_or r (refused q) = q
-
-abbrev value_or : {A : Type 0} → A → Answer A → A
-value_or a (accepted b) = b
-value_or a (refused r) = a
-
--- a design that is refused refuses its sheet
+-- what is refused first is refused
 earlier : {A B : Type 0} (fs gs : List DesignRefusal) (a : A) (b : B) {r : DesignRefusal} → refused r ≡ first_or fs a → refused r ≡ first_or (fs ++ gs) b
 earlier [] gs a b e = absurd (subst IsAccepted (sym e) tt)
-earlier (f ∷ fs) gs a b {r} e = ap refused (ap (refusal_or r) e)
+earlier (f ∷ fs) gs a b e = cc
 
-pub design-refuses : (d : Design) (gains : Gains) (h g k : List ℤ) {r : DesignRefusal} → refused r ≡ design_of d → refused r ≡ sheet_of_design d gains h g k
+-- and what is not leaves the answer to what follows
+later : {A : Type 0} (fs : List DesignRefusal) (a : A) {r : A} → accepted r ≡ first_or fs a → (fs ≡ []) × (r ≡ a)
+later [] a e = (refl, cc)
+later (f ∷ fs) a e = absurd (subst IsAccepted e tt)
+
+first_judged : {A : Type 0} (rs : List Refusal) (r : Refusal) (a : A) → 0 < r.number → r ≡ first_of rs → refused (judge_refusal r) ≡ first_or (map judge_refusal rs) a
+first_judged [] r a h e = absurd (omega (arith, ap (λ (q : Refusal). q.number) e))
+first_judged (q ∷ rs) r a h e = ap (λ (q : Refusal). refused (judge_refusal q)) e
+
+-- the answer is the judge's
+left : (d : Design) (gains : Gains) (h g k : List ℤ) (q : DesignRegisters) → accepted q ≡ design_of d
+    → sheet_of_design d gains h g k ≡ first_or (judge_faults (params_of q gains) h g k) (params_of q gains)
 unfolding design_of sheet_of_design
-design-refuses d gains h g k e =
+left d gains h g k q e = let l = later (design_faults d) (registers_of d (sps_of d)) e in rw (l.0, l.1) refl
+
+pub design_refuses : (d : Design) (gains : Gains) (h g k : List ℤ) (r : DesignRefusal) → refused r ≡ design_of d → refused r ≡ sheet_of_design d gains h g k
+unfolding design_of sheet_of_design
+design_refuses d gains h g k r e =
     let p = params_of (registers_of d (sps_of d)) gains in
     earlier (design_faults d) (judge_faults p h g k) (registers_of d (sps_of d)) p e
 
--- and one that is accepted leaves it to the judge
-later : {A B : Type 0} (fs : List DesignRefusal) (gs : B → List DesignRefusal) (a : A) (f : A → B) {r : A}
-    → accepted r ≡ first_or fs a → first_or (gs (f r)) (f r) ≡ first_or (fs ++ gs (f a)) (f a)
-later {A} [] gs a f e = ap (λ (x : A). first_or (gs (f x)) (f x)) (ap (value_or a) e)
-later (g ∷ fs) gs a f e = absurd (subst IsAccepted e tt)
+pub judge_refuses : (d : Design) (gains : Gains) (h g k : List ℤ) (q : DesignRegisters) (e : ParamError) → accepted q ≡ design_of d
+    → error_refusal e ≡ judged (sheet_of (params_of q gains) h g k) → sheet_answer (Err (SheetError.Params e)) ≡ sheet_of_design d gains h g k
+unfolding judged judge_faults
+judge_refuses d gains h g k q e made told =
+    let p = params_of q gains in
+    first_judged (faults (sheet_of p h g k)) (error_refusal e) p (error-numbered e) told ∙ sym (left d gains h g k q made)
 
-pub design-accepts : (d : Design) (gains : Gains) (h g k : List ℤ) {r : DesignRegisters} {p : Params} {a : Answer Params}
-    → accepted r ≡ design_of d → p ≡ params_of r gains → a ≡ judged_of p h g k → a ≡ sheet_of_design d gains h g k
-unfolding design_of judged_of sheet_of_design
-design-accepts d gains h g k {r} {p} {a} made made_of told =
-    let judges : a ≡ judged_of (params_of r gains) h g k = told ∙ ap (λ (q : Params). judged_of q h g k) made_of in
-    judges ∙ later (design_faults d) (λ (q : Params). judge_faults q h g k) (registers_of d (sps_of d)) (λ (q : DesignRegisters). params_of q gains) made
+pub judge_accepts : (d : Design) (gains : Gains) (h g k : List ℤ) (q : DesignRegisters) → accepted q ≡ design_of d
+    → nothing ≡ judged (sheet_of (params_of q gains) h g k) → accepted (params_of q gains) ≡ sheet_of_design d gains h g k
+unfolding judged judge_faults
+judge_accepts d gains h g k q e told =
+    let s = sheet_of (params_of q gains) h g k in
+    let none : faults s ≡ [] = first-none (faults s) (faults-numbered s) (ap (λ (r : Refusal). r.number) (sym told)) in
+    rw (left d gains h g k q e, none) refl
+
+pub ruleset answers = (design_refuses, judge_refuses, judge_accepts)

@@ -77,10 +77,6 @@ params_of r gains = record {
 unfoldable pub judge_faults : Params → List ℤ → List ℤ → List ℤ → List DesignRefusal
 judge_faults p h g k = map judge_refusal (faults (sheet_of p h g k))
 
--- A sheet, or the judge's refusal of it.
-unfoldable pub judged_of : Params → List ℤ → List ℤ → List ℤ → Answer Params
-judged_of p h g k = first_or (judge_faults p h g k) p
-
 -- The design's refusals, then the judge's of the sheet that the design makes, and the sheet where there is none.
 unfoldable pub sheet_of_design : Design → Gains → List ℤ → List ℤ → List ℤ → Answer Params
 sheet_of_design d gains h g k =

@@ -1,13 +1,11 @@
 -- Refusals of a design, by their numbers. Definitions answer with one of these, and contracts read the enums of the code through the maps below.
-use Rattle.std.specs.Prelude.{ℕ, List, [], ◌∷◌, ℤ, Float}
+use Rattle.std.specs.Prelude.{ℕ, List, [], ◌∷◌, ℤ, Float, Result, Ok, Err}
 use Rattle.params.specs.declared.Params.{Params}
 use Rattle.params.specs.Refusal.{Refusal, error_refusal}
 use Rattle.design.specs.declared.DesignRegisters.{DesignRegisters}
 use Rattle.design.specs.declared.DesignError.{DesignError}
 use Rattle.design.specs.declared.DesignError.TheVariants.{SamplesPerSymbol, Taps, Bits, Trim}
-use Rattle.design.specs.declared.DesignVerdict.{DesignVerdict}
 use Rattle.design.specs.declared.SheetError.{SheetError}
-use Rattle.design.specs.declared.SheetVerdict.{SheetVerdict}
 
 -- A refusal's number and what it carries: the judge's refusals carry whole numbers, and a design's carry the float that was refused.
 pub record DesignRefusal : Type 0 where
@@ -43,10 +41,10 @@ pub data Answer (A : Type 0) : Type 0 where
   refused : DesignRefusal → Answer A
 
 -- What the code's two answers say in these terms.
-abbrev pub design_answer : DesignVerdict → Answer DesignRegisters
-design_answer (DesignVerdict.Accepted r) = accepted r
-design_answer (DesignVerdict.Refused e) = refused (design_refusal e)
+abbrev pub design_answer : Result DesignRegisters DesignError → Answer DesignRegisters
+design_answer (Ok r) = accepted r
+design_answer (Err e) = refused (design_refusal e)
 
-abbrev pub sheet_answer : SheetVerdict → Answer Params
-sheet_answer (SheetVerdict.Accepted p) = accepted p
-sheet_answer (SheetVerdict.Refused e) = refused (sheet_refusal e)
+abbrev pub sheet_answer : Result Params SheetError → Answer Params
+sheet_answer (Ok p) = accepted p
+sheet_answer (Err e) = refused (sheet_refusal e)

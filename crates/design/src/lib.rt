@@ -4,9 +4,9 @@
 ghost use Rattle.std.specs.Prelude.{◌≡◌, ◌&&◌, leb};
 ghost use Rattle.design.specs.Refusal.{design_refusal, sheet_refusal, design_answer, sheet_answer};
 ghost use Rattle.design.specs.Registers.{sps_of, registers_of};
-ghost use Rattle.design.specs.Design.{good_sps, good_trim, design_of, params_of, judged_of, sheet_of_design};
+ghost use Rattle.design.specs.Design.{good_sps, good_trim, design_of, params_of, sheet_of_design};
 
-use params::{ParamError, Params, Verdict};
+use params::{ParamError, Params, Sheet};
 
 // What a receiver is built for (RULES 6.3).
 #[derive(Clone, Copy)]
@@ -55,7 +55,7 @@ pub struct Gains {
 }
 
 // Why a design is refused (RULES 6.3).
-#[derive(Clone, Copy)]
+#[derive(Clone, Copy, PartialEq, Debug)]
 pub enum DesignError {
     SamplesPerSymbol { sps: f64 },
     Taps,
@@ -63,25 +63,31 @@ pub enum DesignError {
     Trim { trim: f64 },
 }
 
-// What a design answers.
-#[derive(Clone, Copy)]
-pub enum DesignVerdict {
-    Accepted(DesignRegisters),
-    Refused(DesignError),
-}
-
 // Why a sheet that is made from a design is refused: by its design, or by the judge.
-#[derive(Clone, Copy)]
+#[derive(Clone, Copy, PartialEq, Debug)]
 pub enum SheetError {
     Design(DesignError),
     Params(ParamError),
 }
 
-// What a design with banks and gains answers.
-#[derive(Clone, Copy)]
-pub enum SheetVerdict {
-    Accepted(Params),
-    Refused(SheetError),
+impl From<DesignError> for SheetError {
+    ghost use Rattle.design.specs.declared.SheetError.{SheetError};
+
+    ghost from_gives = { λ e f. f ≡ SheetError.Design e };
+
+    fn from(e: DesignError) -> SheetError {
+        SheetError::Design(e)
+    }
+}
+
+impl From<ParamError> for SheetError {
+    ghost use Rattle.design.specs.declared.SheetError.{SheetError};
+
+    ghost from_gives = { λ e f. f ≡ SheetError.Params e };
+
+    fn from(e: ParamError) -> SheetError {
+        SheetError::Params(e)
+    }
 }
 
 // ---- the numbers of refusals
@@ -115,37 +121,31 @@ impl SheetError {
 // ---- a design, judged
 
 // 14. The first test refuses a NaN.
+#[tactic(auto, using(crate::proofs::Literals::literals), unfolding(crate::specs::Design::good_sps))]
 fn is_good_sps(sps: f64) -> bool
     ensures { result ≡ good_sps sps }
 {
-    if sps >= 1.0625 {
-        return sps < 4.0;
-    }
-    false
+    sps >= 1.0625 && sps < 4.0
 }
 
 // 16.
 fn is_good_bits(bits: u8) -> bool
     ensures { result ≡ (leb 2 bits && leb bits 8) }
 {
-    if bits < 2 {
-        return false;
-    }
-    bits <= 8
+    (2..=8).contains(&bits)
 }
 
 // 17. The first test refuses a NaN.
+#[tactic(auto, using(crate::proofs::Literals::literals), unfolding(crate::specs::Design::good_trim))]
 fn is_good_trim(trim: f64) -> bool
     ensures { result ≡ good_trim trim }
 {
-    if trim >= -0.5 {
-        return trim <= 0.5;
-    }
-    false
+    trim >= -0.5 && trim <= 0.5
 }
 
 impl Design {
     // Samples from one symbol to the next.
+    #[tactic(auto, unfolding(crate::specs::Registers::sps_of))]
     fn sps(self) -> f64
         ensures { result ≡ sps_of self }
     {
@@ -153,37 +153,40 @@ impl Design {
     }
 
     // The registers of a design (RULES 6.3).
-    pub fn registers(self) -> DesignVerdict
+    #[tactic(auto, using(crate::proofs::Answers::one_by_one), unfolding(crate::specs::Design::design_of, crate::specs::Design::design_faults))]
+    pub fn registers(self) -> Result<DesignRegisters, DesignError>
         ensures { design_answer result ≡ design_of self }
     {
         let sps = self.sps();
         if !is_good_sps(sps) {
-            return DesignVerdict::Refused(DesignError::SamplesPerSymbol { sps });
+            return Err(DesignError::SamplesPerSymbol { sps });
         }
         if !params::is_good_taps(self.taps) {
-            return DesignVerdict::Refused(DesignError::Taps);
+            return Err(DesignError::Taps);
         }
         if !is_good_bits(self.bits) {
-            return DesignVerdict::Refused(DesignError::Bits);
+            return Err(DesignError::Bits);
         }
         let trim = self.trim;
         if !is_good_trim(trim) {
-            return DesignVerdict::Refused(DesignError::Trim { trim });
+            return Err(DesignError::Trim { trim });
         }
-        DesignVerdict::Accepted(self.registers_at(sps))
+        Ok(self.registers_at(sps))
     }
 
-    // The whole sheet of a design, judged with its banks (RULES 6.4).
-    pub fn params(self, gains: Gains, h: &[i32], g: &[i32], k: &[i32]) -> SheetVerdict
+    // The whole sheet of a design, judged with its banks (RULES 6.4). A design that is accepted says nothing of its sheet: at 3.95 samples a symbol the largest
+    // period is past its bound.
+    #[tactic(auto, using(crate::proofs::Answers::answers))]
+    pub fn params(self, gains: Gains, h: &[i32], g: &[i32], k: &[i32]) -> Result<Params, SheetError>
         ensures { sheet_answer result ≡ sheet_of_design self gains h.now g.now k.now }
     {
-        let designed = self.registers();
-        match designed {
-            DesignVerdict::Refused(e) => SheetVerdict::Refused(SheetError::Design(e)),
-            DesignVerdict::Accepted(registers) => judge(registers.with_gains(gains), h, g, k),
-        }
+        let params = self.registers()?.with_gains(gains);
+        let sheet = Sheet { params, h, g, k };
+        sheet.validate()?;
+        Ok(params)
     }
 
+    #[tactic(auto, unfolding(crate::specs::Registers::registers_of))]
     fn registers_at(self, sps: f64) -> DesignRegisters
         ensures { result ≡ registers_of self sps }
     {
@@ -207,6 +210,7 @@ impl Design {
 
 impl DesignRegisters {
     // The sheet of these registers and gains.
+    #[tactic(auto, unfolding(crate::specs::Design::params_of))]
     fn with_gains(self, gains: Gains) -> Params
         ensures { result ≡ params_of self gains }
     {
@@ -231,15 +235,4 @@ impl DesignRegisters {
             delay: self.delay,
         }
     }
-}
-
-// A design that is accepted says nothing of its sheet: at 3.95 samples a symbol the largest period is past its bound.
-fn judge(p: Params, h: &[i32], g: &[i32], k: &[i32]) -> SheetVerdict
-    ensures { sheet_answer result ≡ judged_of p h.now g.now k.now }
-{
-    let verdict = p.validate(h, g, k);
-    if let Verdict::Refused(e) = verdict {
-        return SheetVerdict::Refused(SheetError::Params(e));
-    }
-    SheetVerdict::Accepted(p)
 }

@@ -1,11 +1,14 @@
 -- Sheets that the test finds the same are equal, and equal ones pass it. Each of its 18 parts is an equation of one field, and a sheet is its fields.
 use Prim.Native.Nat.{ℕ}
-use mathlib.Core.Path.{◌≡◌, refl}
+use mathlib.Core.Path.{◌≡◌, refl, sym, ap, ◌∙◌}
 use mathlib.Core.Bool.{Bool, true, false, not, ◌&&◌, ◌||◌}
 use native.Mathlib.Omega.{arith}
 use lib.Dec.{eqb}
 use lib.IntN.{ℤ}
 use lib.Signed.{lt_z}
+use mir.Syntax.{Width}
+use mir.Val.{SFits, of_z}
+use Rattle.arith.proofs.Tested.{differ}
 use borrow.Author.Tests.{eqb-true, eq-eqb}
 use Rattle.arith.proofs.Both.{and_left, and_right, and_both}
 use Rattle.arith.proofs.Order.{lt-pn, ge-pn, eq-pn}
@@ -28,6 +31,14 @@ its_own a = go (lt_z a a) refl
     go : (t : Bool) → lt_z a a ≡ t → same_z a a ≡ true
     go true e = absurd (omega (arith, lt-pn a a e))
     go false e = rw e refl
+
+-- numbers that fit are the same where their bits are
+pub same_bits : {w : Width} (a b : ℤ) → SFits w a → SFits w b → eqb (of_z w a) (of_z w b) ≡ same_z a b
+same_bits {w} a b f g = sym (twice (eqb (of_z w a) (of_z w b))) ∙ ap not (differ a b f g)
+  where
+    twice : (t : Bool) → not (not t) ≡ t
+    twice true = refl
+    twice false = refl
 
 -- ---- sheets
 

@@ -5,7 +5,7 @@ use lib.IntN.{zero-*ℤ, +ℤ_idl, +ℤ_idr}
 use Rattle.params.specs.Banks.{magnitudes, zero_outside}
 use Rattle.params.proofs.Rows.{centred}
 use Rattle.fixed.specs.Filter.{sum_to}
-use Rattle.fixed.specs.Inside.{lowered}
+use Rattle.fixed.specs.Raised.{lowered}
 use Rattle.fixed.proofs.Parts.{mag-split, mag-each}
 use Rattle.fixed.proofs.RowSums.{sum_same, sum-split, run_over}
 

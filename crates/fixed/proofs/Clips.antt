@@ -14,7 +14,7 @@ use Rattle.fixed.specs.Sample.{due, symbol_of, joined, falls, next, made_by, emi
 use Rattle.fixed.specs.Block.{pairs_of, clips_of, accepted, block_of}
 use Rattle.fixed.proofs.Runs.{clips-append}
 
-symbol-clips : (s : Sheet) (f : Frontend) → (symbol_of s f).clips ≤ 12
+pub symbol-clips : (s : Sheet) (f : Frontend) → (symbol_of s f).clips ≤ 12
 unfolding symbol_of
 symbol-clips s f =
     let p = s.params in

@@ -5,12 +5,12 @@ pub mod Clips
 pub mod Refused
 pub mod States
 pub mod OneStep
-pub mod Laying
+pub mod Paired
 pub mod Parts
 pub mod RowSums
 pub mod Centre
 pub mod PhaseRows
 pub mod TwoRuns
-pub mod Kept
+pub mod Shares
+pub mod Ready
 pub mod Turns
-pub mod Unpacked

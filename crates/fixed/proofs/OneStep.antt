@@ -1,4 +1,4 @@
--- A symbol of a state changes the six registers as `Registers::after_symbol` does: the state's registers are defined by the same step.
+-- A symbol of a state changes the six registers as `Registers::step` does: the state's registers are defined by the same step.
 -- What refusal 9 and the time test is all that the step asks of registers before they change.
 use Rattle.std.proofs.Common.{◌≡◌, ◌<◌, true, pos, refl, ap, ◌∙◌, arith, lt-ltb, le-leb}
 use lib.Signed.{le_z}

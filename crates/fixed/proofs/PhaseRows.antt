@@ -3,7 +3,7 @@
 use Rattle.std.proofs.Common.{◌≡◌, ℕ, ◌+◌, ◌-◌, ◌*◌, ◌<◌, ◌≤◌, true, List, [], length, take, drop, ℤ, refl, ap, ◌∙◌, arith}
 use Rattle.params.specs.Banks.{row_of, rows_faults, zero_outside, rows_outside}
 use Rattle.params.proofs.RowsOf.{row-long, row-part, row-light, row-centred}
-use Rattle.fixed.specs.Inside.{Row}
+use Rattle.fixed.specs.Rows.{Row}
 
 -- The part of a bank that goes to the filter.
 abbrev pub part : ℕ → ℕ → List ℤ → List ℤ

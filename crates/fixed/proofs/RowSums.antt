@@ -1,6 +1,6 @@
 -- The sum of a row over the line, built up coefficient by coefficient on top of any number. A sum of products is linear in each factor, so what the raising of
 -- the line's numbers, or of the coefficients, adds to it is a sum of its own; and each tap adds no more than a bound, so n taps add no more than n of them.
-use Rattle.std.proofs.Common.{◌≡◌, ℕ, zero, suc, ◌+◌, ◌*◌, ◌^◌, ◌<◌, ◌≤◌, T, List, length, get_or, ℤ, pos, ◌+ℤ◌, ◌-ℤ◌, ◌*ℤ◌, nat_abs, sym, refl, ap, ◌∙◌, suc-mul, mul-le-mul, add-one, arith, w32, Fits, SFits}
+use Rattle.std.proofs.Common.{◌≡◌, ℕ, zero, suc, ◌+◌, ◌*◌, ◌^◌, ◌<◌, ◌≤◌, T, List, length, get_or, ℤ, pos, ◌+ℤ◌, ◌-ℤ◌, ◌*ℤ◌, nat_abs, sym, refl, ap, ◌∙◌, subst, suc-mul, mul-le-mul, add-one, arith, w32, Fits, SFits}
 use lib.IntN.{zero-*ℤ, *ℤ_comm, +ℤ_assoc, +ℤ_idr, +ℤ-neg_ℤ_cancel}
 use lib.Signed.{non_neg, pos-nat_abs}
 use Rattle.arith.proofs.Magnitude.{abs-add, abs-mul-le}
@@ -12,7 +12,8 @@ use Rattle.fixed.specs.declared.filter.Raised.{Raised}
 use Rattle.fixed.specs.declared.filter.Summed.{Summed}
 use Rattle.fixed.specs.Filter.{sum_to}
 use Rattle.fixed.specs.TwoRuns.{together}
-use Rattle.fixed.specs.Inside.{lowered, sum_over, sums_over, unraised, unraised_sums, one_tap_more, SumsUpto, RaisedUpto, SummedUpto}
+use Rattle.fixed.specs.Raised.{lowered}
+use Rattle.fixed.specs.Inside.{sum_over, sums_over, unraised, unraised_sums, one_tap_more, SumsUpto, RaisedUpto, SummedUpto}
 
 -- ---- sums
 
@@ -151,9 +152,11 @@ added-upto a m b = record { i = a.in-i.few m b.i; q = a.in-q.few m b.q }
 pub sums-wider : {a b : ℕ} {s : Sums} → a ≤ b → SumsUpto a s → SumsUpto b s
 sums-wider h u = record { i = omega (arith, u.i); q = omega (arith, u.q) }
 
-pub added-all : {row : List ℤ} {i q : List ℕ} {s₀ s : Sums} → Added row i q (length row) s₀ s → s ≡ together s₀ (sums_over row i q)
+pub added-all : {row : List ℤ} {i q : List ℕ} {n : ℕ} {s₀ s : Sums} → n ≡ length row → Added row i q n s₀ s → s ≡ together s₀ (sums_over row i q)
 unfolding sums_over sum_over
-added-all a = λ t. record { i = a.in-i.is t; q = a.in-q.is t }
+added-all {row} {i} {q} {s₀ = s₀} {s} e b =
+    let a : Added row i q (length row) s₀ s = subst (λ (n : ℕ). Added row i q n s₀ s) e b in
+    λ t. record { i = a.in-i.is t; q = a.in-q.is t }
 
 -- ---- a row of raised coefficients over raised numbers
 
@@ -254,10 +257,11 @@ unraised-all row kept {u₀} {v₀} {c₀ = c₀} a b w =
     (sum_to (coefficient row) (length row)) (pos 131072) (pos 2147483648)
     ∙ ap (λ (z : ℤ). unraised u₀ v₀ c₀ +ℤ z) (lifted-all row kept (length row))
 
-pub taken-all : {row : List ℤ} {i q : List ℕ} {s₀ s : Raised} → Taken row i q (length row) s₀ s
+pub taken-all : {row : List ℤ} {i q : List ℕ} {n : ℕ} {s₀ s : Raised} → n ≡ length row → Taken row i q n s₀ s
     → unraised_sums s ≡ together (unraised_sums s₀) (sums_over row i q)
 unfolding sums_over
-taken-all {row} {i} {q} t =
+taken-all {row} {i} {q} {s₀ = s₀} {s} e b =
+    let t : Taken row i q (length row) s₀ s = subst (λ (n : ℕ). Taken row i q n s₀ s) e b in
     let x = unraised-all row i t.in-i t.line-i t.coefficients in
     let y = unraised-all row q t.in-q t.line-q t.coefficients in
     λ m. record { i = x m; q = y m }

@@ -1,17 +1,25 @@
 -- A block, sample after sample: what holds after n of its turns, and that the next turn keeps it.
--- The state after n samples is the one that the arrays stand for, and the output begins with the places of the symbols of these samples.
-use Rattle.std.proofs.Common.{◌≡◌, ℕ, zero, suc, ◌+◌, ◌*◌, ◌/◌, ◌<◌, ◌≤◌, Bool, true, false, cond, List, [], ◌∷◌, ◌++◌, length, get_or, take, drop, ℤ, pos, sym, refl, ap, ◌∙◌, subst, append_assoc, append-nil, arith, length-append, take_all, take-suc, drop-drop, take_at, lt-ltb, le-leb}
+-- The state after n samples is the definition's, and the output begins with the places of the symbols of these samples.
+use Rattle.std.proofs.Common.{◌≡◌, ℕ, zero, suc, ◌+◌, ◌*◌, ◌/◌, ◌<◌, ◌≤◌, Bool, true, false, cond, List, [], ◌∷◌, ◌++◌, length, get_or, take, drop, ℤ, pos, sym, refl, ap, ◌∙◌, subst, append_assoc, append-nil, arith, length-append, length-take-le, take_all, take-suc, drop-drop, take_at, lt-ltb, le-leb}
 use lib.Seq.{drop-append-add}
-use Rattle.params.specs.Judge.{Sheet}
+use Rattle.params.specs.Refusal.{nothing}
+use Rattle.params.specs.Judge.{Sheet, judged}
+use Rattle.params.proofs.Accepted.{judged-none, no-faults}
 use Rattle.symbol.specs.declared.Symbol.{Symbol}
+use Rattle.symbol.specs.Make.{symbol_from}
 use Rattle.symbol.specs.Places.{places_of, Outcome, has_room, put_of}
 use Rattle.state.specs.declared.Pair.{Pair}
 use Rattle.state.specs.declared.Frontend.{Frontend}
 use Rattle.state.specs.Start.{no_pair}
-use Rattle.fixed.specs.Sample.{made_by, after, emitted}
+use Rattle.state.specs.Check.{good_state}
+use Rattle.state.proofs.Going.{going}
+use Rattle.state.proofs.Going.{good as back}
+use Rattle.fixed.specs.Sample.{symbol_of, joined, falls, next, made_by, after, emitted}
 use Rattle.fixed.specs.Block.{pairs_of, flattened, clips_of}
-use Rattle.fixed.specs.Inside.{Kept, Stands, Begun, Ready, Pushes, Runs}
-use Rattle.fixed.proofs.Runs.{after-append, emitted-append, flattened-append, length-flattened, clips-append}
+use Rattle.fixed.specs.Inside.{Ready, Writes}
+use Rattle.fixed.proofs.Runs.{after-append, emitted-append, run-samples, flattened-append, length-flattened, clips-append}
+use Rattle.fixed.proofs.States.{run-going}
+use Rattle.fixed.proofs.Clips.{symbol-clips}
 
 -- ---- the values as pairs
 
@@ -52,103 +60,75 @@ pairs-rest (i ∷ q ∷ values) (suc n) = let a : 2 * suc n ≡ suc (suc (2 * n)
 
 -- ---- a turn's output
 
--- The output begins with the places of these symbols, and is otherwise as it was.
-pub record Output (ys : List Symbol) (out₀ out : List ℤ) (count : ℕ) : Type 0 where
-  pub counted : count ≡ length ys
-  pub places : out ≡ flattened ys ++ drop (20 * count) out₀
-
--- The clips that a turn adds.
-abbrev pub clips_added : Bool → Symbol → ℕ
-clips_added made y = cond made y.clips 0
-
-pub added-few : (made : Bool) (y : Symbol) → (made ≡ true → y.clips ≤ 12) → clips_added made y ≤ 12
-added-few true y few = few refl
-added-few false y few = omega arith
-
-clips-next : (ys : List Symbol) (made : Bool) (y : Symbol) → clips_of (ys ++ cond made (y ∷ []) []) ≡ clips_of ys + clips_added made y
-unfolding clips_of
-clips-next ys true y = omega (arith, clips-append ys (y ∷ []))
-clips-next ys false y = omega (arith, clips-append ys [])
-
--- What a turn leaves of it, and how many symbols are then counted.
-abbrev pub emitted_to : Bool → Symbol → ℕ → List ℤ → Outcome
-emitted_to made y count out = cond made (put_of y count out) (record { count = count; output = out })
-
 -- with room for it, a symbol goes behind the others
 put_is : (y : Symbol) (count : ℕ) (out : List ℤ) → count < length out / 20 → y.sample ≤ 9223372036854775807
     → put_of y count out ≡ record { count = count + 1; output = take (20 * count) out ++ (places_of y ++ drop (20 * count + 20) out) }
 unfolding put_of has_room
 put_is y count out h k = rw (lt-ltb count (length out / 20) h, le-leb y.sample 9223372036854775807 k) refl
 
-pub output-next : {ys : List Symbol} {out₀ out : List ℤ} {count : ℕ} (made : Bool) (y : Symbol) → count < length out / 20
-    → (made ≡ true → y.sample ≤ 9223372036854775807) → Output ys out₀ out count
-    → let put : Outcome = emitted_to made y count out in Output (ys ++ cond made (y ∷ []) []) out₀ put.output put.count
-unfolding flattened
-output-next {ys} {out₀} {out} {count} true y room fits o =
+writes-none : (out : List ℤ) → Writes [] out out 0 0
+unfolding flattened clips_of
+writes-none out = record { counted = refl; clipped = refl; written = refl }
+
+-- a symbol more
+writes-next : {ys : List Symbol} {out₀ out : List ℤ} {count clips : ℕ} (y : Symbol) → count < length out / 20 → y.sample ≤ 9223372036854775807
+    → Writes ys out₀ out count clips
+    → let put : Outcome = put_of y count out in Writes (ys ++ (y ∷ [])) out₀ put.output put.count (clips + y.clips)
+unfolding flattened clips_of
+writes-next {ys} {out₀} {out} {count} {clips} y room fits o =
     let long : length (flattened ys) ≡ 20 * count = length-flattened ys ∙ ap (λ (n : ℕ). 20 * n) (sym o.counted) in
-    let front : take (20 * count) out ≡ flattened ys = ap (take (20 * count)) o.places ∙ take_at (flattened ys) (drop (20 * count) out₀) (20 * count) long in
+    let front : take (20 * count) out ≡ flattened ys = ap (take (20 * count)) o.written ∙ take_at (flattened ys) (drop (20 * count) out₀) (20 * count) long in
     let seam : 20 * count + 20 ≡ length (flattened ys) + 20 = omega arith in
     let far : 20 * count + 20 ≡ 20 * (count + 1) = omega arith in
     let back : drop (20 * count + 20) out ≡ drop (20 * (count + 1)) out₀ =
-    ap (drop (20 * count + 20)) o.places ∙ ap (λ (n : ℕ). drop n (flattened ys ++ drop (20 * count) out₀)) seam
+    ap (drop (20 * count + 20)) o.written ∙ ap (λ (n : ℕ). drop n (flattened ys ++ drop (20 * count) out₀)) seam
     ∙ drop-append-add (flattened ys) (drop (20 * count) out₀) 20 ∙ drop-drop 20 (20 * count) out₀ ∙ ap (λ (n : ℕ). drop n out₀) far in
     let all : flattened (ys ++ (y ∷ [])) ≡ flattened ys ++ places_of y =
     flattened-append ys (y ∷ []) ∙ ap (λ (l : List ℤ). flattened ys ++ l) (append-nil (places_of y)) in
-    rw (put_is y count out room (fits refl)) (record {
+    rw (put_is y count out room fits) (record {
       counted = omega (arith, o.counted, length-append ys (y ∷ []));
-      places =
+      clipped = omega (arith, o.clipped, clips-append ys (y ∷ []));
+      written =
           (λ i. front i ++ (places_of y ++ back i)) ∙ sym (append_assoc (flattened ys) (places_of y) (drop (20 * (count + 1)) out₀))
           ∙ ap (λ (l : List ℤ). l ++ drop (20 * (count + 1)) out₀) (sym all);
     })
-output-next {ys} {out₀} {out} {count} false y room fits o = record {
-  counted = o.counted ∙ ap length (sym (append-nil ys));
-  places = o.places ∙ ap (λ (l : List Symbol). flattened l ++ drop (20 * count) out₀) (sym (append-nil ys));
-}
 
--- at most one symbol more is counted
-emitted-few : (made : Bool) (y : Symbol) (count : ℕ) (out : List ℤ) → (emitted_to made y count out).count ≤ count + 1
-unfolding put_of
-emitted-few true y count out = go (has_room y count out) refl
-  where
-    go : (b : Bool) → has_room y count out ≡ b → (put_of y count out).count ≤ count + 1
-    go true e = rw e (omega arith)
-    go false e = rw e (omega arith)
-emitted-few false y count out = omega arith
+-- ---- a symbol that a sample made
+
+module _ (s : Sheet) (f : Frontend) (a : Pair) (y : Symbol) (is : y ∷ [] ≡ made_by s f a) where
+  made-symbol : y ≡ symbol_of s (joined s f a)
+  unfolding made_by
+  made-symbol = go (falls f) refl
+    where
+      go : (b : Bool) → falls f ≡ b → y ≡ symbol_of s (joined s f a)
+      go true e = let h : y ∷ [] ≡ symbol_of s (joined s f a) ∷ [] = is ∙ ap (λ (b : Bool). cond b (symbol_of s (joined s f a) ∷ []) []) e in cc
+      go false e = let h : y ∷ [] ≡ [] = is ∙ ap (λ (b : Bool). cond b (symbol_of s (joined s f a) ∷ []) []) e in cc
+
+  pub made-clips : y.clips ≤ 12
+  made-clips = rw made-symbol (symbol-clips s (joined s f a))
+
+  pub made-sample : y.sample ≡ f.samples
+  unfolding symbol_of symbol_from joined
+  made-sample = ap (λ (z : Symbol). z.sample) made-symbol
 
 -- ---- the turns
 
-module _ (s : Sheet) (values : List ℤ) (out₀ : List ℤ) (x₀ : Kept) where
-  abbrev First : Frontend → Type 0
-  First f = Stands s.params.taps x₀ f
-
+module _ (s : Sheet) (values : List ℤ) (out₀ : List ℤ) (f₀ : Frontend) where
   -- The samples of the first n turns.
   abbrev some : ℕ → List Pair
   some n = take n (pairs_of values)
 
-  pub record Turned (out : List ℤ) (x : Kept) (count clips n : ℕ) : Type 0 where
-    pub begun : Begun s x
-    pub at : x.position.samples ≡ x₀.position.samples + n
+  pub record Turned (out : List ℤ) (f : Frontend) (count clips n : ℕ) : Type 0 where
     pub most : n ≤ length values / 2
     pub few : count ≤ n
     pub few-clips : clips ≤ 12 * n
     pub long : length out ≡ length out₀
-    pub output : (f : Frontend) → First f → Output (emitted s f (some n)) out₀ out count
-    pub clipped : (f : Frontend) → First f → clips ≡ clips_of (emitted s f (some n))
-    pub stands : (f : Frontend) → First f → Stands s.params.taps x (after s f (some n))
+    pub writes : Writes (emitted s f₀ (some n)) out₀ out count clips
+    pub is : f ≡ after s f₀ (some n)
 
-  pub turned_none : Begun s x₀ → Turned out₀ x₀ 0 0 0
-  unfolding after emitted flattened clips_of
-  turned_none begun = record {
-    begun = begun;
-    at = omega arith;
-    most = omega arith;
-    few = omega arith;
-    few-clips = omega arith;
-    long = refl;
-    output = λ f first. record { counted = refl; places = refl };
-    clipped = λ f first. refl;
-    stands = λ f first. first;
-  }
+  pub turned_none : Turned out₀ f₀ 0 0 0
+  unfolding after emitted
+  turned_none = record { most = omega arith; few = omega arith; few-clips = omega arith; long = refl; writes = writes-none out₀; is = refl }
 
   -- the samples of one turn more
   some_next : (n : ℕ) (a : Pair) → n < length values / 2 → get_or (pairs_of values) n no_pair ≡ a → some (n + 1) ≡ some n ++ (a ∷ [])
@@ -156,70 +136,69 @@ module _ (s : Sheet) (values : List ℤ) (out₀ : List ℤ) (x₀ : Kept) where
       let one_more : n + 1 ≡ suc n = omega arith in
       ap some one_more ∙ take-suc (pairs_of values) n no_pair (omega (arith, pairs-long values)) ∙ ap (λ (z : Pair). some n ++ (z ∷ [])) e
 
-  -- What one sample, read at turn n, leaves: all that `push` promises, and waiting errors in as many places.
-  pub record Turn (x y : Kept) (a : Pair) (made : Bool) (symbol : Symbol) : Type 0 where
-    pub pushes : Pushes s x y a made symbol
-    pub long-e : length y.e ≡ length x.e
-    pub long-err : length y.err ≡ length x.err
+  after_next : {f : Frontend} (n : ℕ) (a : Pair) → n < length values / 2 → get_or (pairs_of values) n no_pair ≡ a → f ≡ after s f₀ (some n)
+      → next s f a ≡ after s f₀ (some (n + 1))
+  unfolding after
+  after_next n a h e is =
+      ap (λ (f : Frontend). next s f a) is ∙ sym (ap (after s f₀) (some_next n a h e) ∙ after-append s f₀ (some n) (a ∷ []))
 
-  module _ (room : 20 * (length values / 2) ≤ length out₀) (countable : x₀.position.samples + length values / 2 ≤ 9223372036854775807) where
-    pub turned-next : {out : List ℤ} {x y : Kept} {count clips n : ℕ} {a : Pair} {made : Bool} {symbol : Symbol} {count' added : ℕ} {out' : List ℤ}
-        → Turned out x count clips n → n < length values / 2 → get_or (pairs_of values) n no_pair ≡ a → Turn x y a made symbol
-        → ◌≡◌ {A = Outcome} (record { count = count'; output = out' }) (emitted_to made symbol count out) → length out' ≡ length out
-        → added ≡ clips_added made symbol → Turned out' y count' (clips + added) (n + 1)
-    unfolding after emitted
-    turned-next {out} {x} {y} {count} {clips} {n} {a} {made} {symbol} {count'} {added} {out'} t below at turn is same adds =
-        record {
-          begun = record {
-            accepted = t.begun.accepted;
-            good = turn.pushes.on.good;
-            line = turn.pushes.on.line;
-            long-e = turn.long-e ∙ t.begun.long-e;
-            long-err = turn.long-err ∙ t.begun.long-err;
-          };
-          at = omega (arith, turn.pushes.on.samples, t.at);
-          most = omega arith;
-          few = subst (λ (put : Outcome). put.count ≤ n + 1) (sym is) (omega (arith, emitted-few made symbol count out, t.few));
-          few-clips = omega (arith, t.few-clips, adds, added-few made symbol turn.pushes.few-clips);
-          long = same ∙ t.long;
-          output = λ f first.
-              subst (λ (ys : List Symbol). Output ys out₀ out' count') (all f first)
-              (subst (λ (put : Outcome). Output (emitted s f (some n) ++ cond made (symbol ∷ []) []) out₀ put.output put.count) (sym is)
-              (output-next made symbol free fits (t.output f first)));
-          clipped = λ f first.
-              (λ i. t.clipped f first i + adds i) ∙ sym (clips-next (emitted s f (some n)) made symbol) ∙ ap clips_of (all f first);
-          stands = λ f first.
-              subst (Stands s.params.taps y) (sym (ap (after s f) (some_next n a below at) ∙ after-append s f (some n) (a ∷ [])))
-              (turn.pushes.state (after s f (some n)) (t.stands f first));
-        }
-      where
-        free : count < length out / 20
-        free = omega (arith, t.few, t.long)
+  emitted_next : {f : Frontend} (n : ℕ) (a : Pair) → n < length values / 2 → get_or (pairs_of values) n no_pair ≡ a → f ≡ after s f₀ (some n)
+      → emitted s f₀ (some n) ++ made_by s f a ≡ emitted s f₀ (some (n + 1))
+  unfolding emitted
+  emitted_next n a h e is =
+      sym (ap (emitted s f₀) (some_next n a h e) ∙ emitted-append s f₀ (some n) (a ∷ [])
+      ∙ ap (λ (l : List Symbol). emitted s f₀ (some n) ++ l) (append-nil (made_by s (after s f₀ (some n)) a) ∙ ap (λ (f : Frontend). made_by s f a) (sym is)))
 
-        all : (f : Frontend) → First f → emitted s f (some n) ++ cond made (symbol ∷ []) [] ≡ emitted s f (some (n + 1))
-        all f first =
-            sym (ap (emitted s f) (some_next n a below at) ∙ emitted-append s f (some n) (a ∷ [])
-            ∙ ap (λ (l : List Symbol). emitted s f (some n) ++ l)
-            (append-nil (made_by s (after s f (some n)) a) ∙ turn.pushes.makes (after s f (some n)) (t.stands f first)))
-
-        fits : made ≡ true → symbol.sample ≤ 9223372036854775807
-        fits m = rw (turn.pushes.sample m) (omega (arith, t.at))
+  module _ (accepted : judged s ≡ nothing) (good : good_state s.params f₀ ≡ true) (room : 20 * (length values / 2) ≤ length out₀)
+      (countable : f₀.samples + length values / 2 ≤ 9223372036854775807) where
+    turned-samples : {out : List ℤ} {f : Frontend} {count clips n : ℕ} → Turned out f count clips n → f.samples ≡ f₀.samples + n
+    turned-samples {n = n} t =
+        ap (λ (f : Frontend). f.samples) t.is ∙ run-samples s f₀ (some n)
+        ∙ ap (λ (m : ℕ). f₀.samples + m) (length-take-le n (pairs_of values) (omega (arith, pairs-long values, t.most)))
 
     -- at a turn that there is a pair for, a sample can be pushed
-    pub turned-ready : {out : List ℤ} {x : Kept} {count clips n : ℕ} → Turned out x count clips n → n < length values / 2 → Ready s x
-    turned-ready t below = record { begun = t.begun; room = omega (arith, t.at) }
+    pub turned-ready : {out : List ℤ} {f : Frontend} {count clips n : ℕ} → Turned out f count clips n → n < length values / 2 → Ready s f
+    turned-ready {n = n} t below = record {
+      accepted = accepted;
+      good =
+          rw t.is (back s.params (after s f₀ (some n)) (run-going s (no-faults s (judged-none s accepted)) f₀ (some n) (going s.params f₀ good)));
+      room = omega (arith, turned-samples t);
+    }
 
-  -- after the last turn, all samples are taken, and what holds is what a block promises
-  pub turned-all : {out : List ℤ} {x : Kept} {count clips n : ℕ} → Turned out x count clips n → length values / 2 ≤ n
-      → Runs s x₀ x values out₀ out count clips
-  turned-all {out} {x} {count} {clips} {n} t h =
-      let all : some n ≡ pairs_of values = take_all n (pairs_of values) (omega (arith, pairs-long values)) in
-      let output : (f : Frontend) → First f → Output (emitted s f (pairs_of values)) out₀ out count =
-      λ f first. subst (λ (xs : List Pair). Output (emitted s f xs) out₀ out count) all (t.output f first) in
-      record {
-        line = t.begun.line;
-        counted = λ f first. (output f first).counted;
-        clipped = λ f first. t.clipped f first ∙ ap (λ (xs : List Pair). clips_of (emitted s f xs)) all;
-        written = λ f first. (output f first).places;
-        state = λ f first. subst (λ (xs : List Pair). Stands s.params.taps x (after s f xs)) all (t.stands f first);
-      }
+    pub turned-made : {out out' : List ℤ} {f f' : Frontend} {count count' clips n : ℕ} {a : Pair} (y : Symbol) → Turned out f count clips n
+        → n < length values / 2 → get_or (pairs_of values) n no_pair ≡ a → f' ≡ next s f a → y ∷ [] ≡ made_by s f a
+        → ◌≡◌ {A = Outcome} (record { count = count'; output = out' }) (put_of y count out) → length out' ≡ length out
+        → Turned out' f' count' (clips + y.clips) (n + 1)
+    turned-made {out} {out'} {f} {f'} {count} {count'} {clips} {n} {a} y t below at is made put same =
+        let free : count < length out / 20 = omega (arith, t.few, t.long) in
+        let fits : y.sample ≤ 9223372036854775807 = omega (arith, made-sample s f a y made, turned-samples t) in
+        let writes : Writes (emitted s f₀ (some n) ++ (y ∷ [])) out₀ out' count' (clips + y.clips) =
+        subst (λ (put : Outcome). Writes (emitted s f₀ (some n) ++ (y ∷ [])) out₀ put.output put.count (clips + y.clips)) (sym put)
+        (writes-next y free fits t.writes) in
+        record {
+          most = omega arith;
+          few = omega (arith, ap (λ (o : Outcome). o.count) put, ap (λ (o : Outcome). o.count) (put_is y count out free fits), t.few);
+          few-clips = omega (arith, t.few-clips, made-clips s f a y made);
+          long = same ∙ t.long;
+          writes =
+              subst (λ (ys : List Symbol). Writes ys out₀ out' count' (clips + y.clips))
+              (ap (λ (l : List Symbol). emitted s f₀ (some n) ++ l) made ∙ emitted_next n a below at t.is) writes;
+          is = is ∙ after_next n a below at t.is;
+        }
+
+    pub turned-silent : {out : List ℤ} {f f' : Frontend} {count clips n : ℕ} {a : Pair} → Turned out f count clips n → n < length values / 2
+        → get_or (pairs_of values) n no_pair ≡ a → f' ≡ next s f a → [] ≡ made_by s f a → Turned out f' count clips (n + 1)
+    turned-silent {out} {f} {f'} {count} {clips} {n} {a} t below at is made = record {
+      most = omega arith;
+      few = omega (arith, t.few);
+      few-clips = omega (arith, t.few-clips);
+      long = t.long;
+      writes =
+          subst (λ (ys : List Symbol). Writes ys out₀ out count clips)
+          (sym (append-nil (emitted s f₀ (some n))) ∙ ap (λ (l : List Symbol). emitted s f₀ (some n) ++ l) made ∙ emitted_next n a below at t.is) t.writes;
+      is = is ∙ after_next n a below at t.is;
+    }
+
+  -- after the last turn, all samples are taken
+  pub some-all : (n : ℕ) → length values / 2 ≤ n → some n ≡ pairs_of values
+  some-all n h = take_all n (pairs_of values) (omega (arith, pairs-long values))

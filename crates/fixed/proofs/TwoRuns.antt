@@ -7,7 +7,9 @@ use Rattle.state.specs.Start.{no_pair}
 use Rattle.fixed.specs.Line.{nth_newest}
 use Rattle.fixed.specs.Filter.{sum_to, sums_of}
 use Rattle.fixed.specs.TwoRuns.{run_sums, TwoRuns}
-use Rattle.fixed.specs.Inside.{lowered, pair_at, Laid, sum_over, sums_over}
+use Rattle.fixed.specs.Raised.{lowered, paired}
+use Rattle.fixed.specs.Inside.{sum_over, sums_over}
+use Rattle.fixed.proofs.Paired.{pair_at, paired-at}
 use Rattle.fixed.proofs.RowSums.{sum_same, sum-split, coefficient, term, run_over}
 
 -- ---- the claim
@@ -66,11 +68,13 @@ unfolding sums_over run_over
 part-sums row i q from place n h = λ t. record { i = part-sum row i from place n h t; q = part-sum row q from place n h t }
 
 -- they are runs over the line
-pub run-laid : (taps : ℕ) (row : List ℤ) (i q : List ℕ) (line : List Pair) → Laid taps i q line → (from place count : ℕ) → place + count ≤ taps
-    → run_over row i q from place count ≡ run_sums row line from place count
+pub run-paired : (row : List ℤ) (i q : List ℕ) → length i ≡ 64 → length q ≡ 64 → (from place count : ℕ) → place + count ≤ 64
+    → run_over row i q from place count ≡ run_sums row (paired i q) from place count
 unfolding run_over run_sums
-run-laid taps row i q line laid from place count h =
-    let at : (n : ℕ) → n < count → pair_at i q (place + n) ≡ get_or line (place + n) no_pair = λ n l. sym (laid.each (place + n) (omega arith)) in
+run-paired row i q a b from place count h =
+    let line = paired i q in
+    let at : (n : ℕ) → n < count → pair_at i q (place + n) ≡ get_or line (place + n) no_pair =
+    λ n l. sym (paired-at i q (place + n) (a ∙ sym b) (omega arith)) in
     let x = sum_same (λ n. coefficient row (from + n) *ℤ lowered (get_or i (place + n) 0))
     (λ n. coefficient row (from + n) *ℤ (get_or line (place + n) no_pair).i) count (λ n l. λ t. coefficient row (from + n) *ℤ (at n l t).i) in
     let y = sum_same (λ n. coefficient row (from + n) *ℤ lowered (get_or q (place + n) 0))

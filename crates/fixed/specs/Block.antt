@@ -1,12 +1,13 @@
 -- A block: samples in, symbols out, on any state and into any buffer.
 -- (RULES 4.2)
-use Rattle.std.specs.Prelude.{ℕ, ◌+◌, ◌*◌, cond, List, [], ◌∷◌, ◌++◌, length, take, drop, ℤ, ◌==◌}
+use Rattle.std.specs.Prelude.{ℕ, ◌+◌, ◌*◌, cond, List, [], ◌∷◌, ◌++◌, length, take, drop, ℤ, ◌==◌, Result, Ok, Err}
 use Rattle.params.specs.Refusal.{Refusal, nothing, first_of}
 use Rattle.params.specs.Judge.{Sheet}
 use Rattle.symbol.specs.declared.Symbol.{Symbol}
 use Rattle.symbol.specs.Places.{places_of}
 use Rattle.state.specs.declared.Pair.{Pair}
 use Rattle.state.specs.declared.Frontend.{Frontend}
+use Rattle.state.specs.declared.FrontendError.{FrontendError}
 use Rattle.state.specs.Check.{pairs_taken, block_faults, frontend_refusal}
 use Rattle.fixed.specs.declared.Processed.{Processed}
 use Rattle.fixed.specs.Sample.{after, emitted}
@@ -59,13 +60,7 @@ block_of s f values out =
     let r : Refusal = first_of (block_faults s f (length values) (length out)) in
     cond (r.number == 0) (accepted s f values out) (record { refused = r; state = f; taken = 0; count = 0; clips = 0; output = out })
 
--- What the code's answer and its output say in these terms.
-abbrev pub processed : Processed → List ℤ → Block
-processed a out = record {
-  refused = frontend_refusal a.verdict;
-  state = a.state;
-  taken = a.taken;
-  count = a.count;
-  clips = a.clips;
-  output = out;
-}
+-- What the code's answer says in these terms, with the state and the output as it left them.
+abbrev pub processed : Result Processed FrontendError → Frontend → List ℤ → Block
+processed (Ok a) f out = record { refused = nothing; state = f; taken = a.taken; count = a.count; clips = a.clips; output = out }
+processed (Err e) f out = record { refused = frontend_refusal e; state = f; taken = 0; count = 0; clips = 0; output = out }

@@ -9,4 +9,6 @@ pub mod Queue
 pub mod Sample
 pub mod Block
 pub mod OneStep
+pub mod Raised
+pub mod Rows
 pub mod Inside

@@ -7,12 +7,33 @@
 // The machine multiplies unsigned numbers two at a time. So the numbers of the line come raised by 2^31, and for the long row, that of k, each coefficient is
 // raised here by 2^17. What that adds to the row's sum, 2^31 times the sum of its coefficients and 2^17 times the sum of the line's numbers, is taken off at
 // the end. The rows of h and g have at most eight coefficients that count: too few to be worth it.
-ghost use Rattle.std.specs.Prelude.{◌≡◌, ◌+◌, ◌<◌, ◌≤◌, min, max, length, ◌+ℤ◌, ◌*ℤ◌, unsigned_abs};
-ghost use Rattle.fixed.specs.Inside.{Row, Beside, Filterable, SumsUpto, DetectedUpto, RaisedUpto, SummedUpto, one_tap_more, unraised_sums};
-ghost use Rattle.fixed.specs.Inside.{none_summed, Detects, Outputs, RunAdds, Filters};
+ghost use Rattle.std.specs.Prelude.{◌≡◌, ◌+◌, ◌<◌, ◌≤◌, [], ◌∷◌, length, ◌+ℤ◌, ◌*ℤ◌, unsigned_abs};
+ghost use Rattle.fixed.specs.Filter.{sums_of};
+ghost use Rattle.fixed.specs.Rows.{Row};
+ghost use Rattle.fixed.specs.Inside.{Beside, SumsUpto, DetectedUpto, RaisedUpto, SummedUpto, one_tap_more, unraised_sums};
+ghost use Rattle.fixed.specs.Inside.{none_summed, Detects, Outputs, RunAdds};
 
-use crate::line;
+use crate::line::{self, Line};
+use std::marker::Model;
 use symbol::Sums;
+
+// The rows that the filter takes, one of each bank.
+#[derive(Drop)]
+pub(crate) struct Rows<'a> {
+    pub(crate) h: &'a [i32],
+    pub(crate) g: &'a [i32],
+    pub(crate) k: &'a [i32],
+}
+
+impl<'a> Model for Rows<'a> {
+    ghost use Rattle.fixed.specs.Rows.{ThreeRows, Filterable};
+
+    ghost Value = { ThreeRows };
+
+    ghost view = { λ r. record { h = r.h.now; g = r.g.now; k = r.k.now } };
+
+    ghost invariant = { λ r. Filterable r.h.now r.g.now r.k.now };
+}
 
 // ---- rows of h and g
 
@@ -44,13 +65,11 @@ fn detector_run(before: Detected, h: &[i32], g: &[i32], i: &[u64], q: &[u64]) ->
 {
     let mut a = before.h;
     let mut b = before.g;
-    let mut n: usize = 0;
-    while n < h.len() {
+    for n in 0..h.len() {
         let x = line::lower(i[n]);
         let y = line::lower(q[n]);
         a = with_products(a, h[n], x, y);
         b = with_products(b, g[n], x, y);
-        n += 1;
     }
     Detected { h: a, g: b }
 }
@@ -89,10 +108,8 @@ fn output_run(before: Raised, k: &[i32], i: &[u64], q: &[u64]) -> Raised
     ensures { Outputs k.now i.now q.now before result }
 {
     let mut s = before;
-    let mut n: usize = 0;
-    while n < k.len() {
+    for n in 0..k.len() {
         s = with_tap(s, k[n], i[n], q[n]);
-        n += 1;
     }
     s
 }
@@ -134,79 +151,54 @@ fn nothing_summed() -> Summed
     }
 }
 
-// `at`, held between `from` and `to`.
-fn clamped(at: usize, from: usize, to: usize) -> usize
-    requires { from ≤ to }
-    ensures { result ≡ min (max at from) to }
-{
-    if at < from {
-        return from;
-    }
-    if to < at {
-        return to;
-    }
-    at
-}
-
 // One run: `count` coefficients of each row, from number `from` on, over as many places of the line, from `place` on. Outside the detector's places the rows
 // of h and g are zero, so of their coefficients only the run's share of those is summed, from number `begin` up to `end`.
 fn line_run(
     before: Summed,
-    h: &[i32],
-    g: &[i32],
-    k: &[i32],
-    i: &[u64],
-    q: &[u64],
+    rows: &Rows<'_>,
+    line: &Line,
     from: usize,
     place: usize,
     count: usize,
 ) -> Summed
-    requires filterable { Filterable h.now g.now k.now i.now q.now × SummedUpto 64 before }
-    requires count_in_bounds { (from + count ≤ length k.now) × (place + count ≤ length k.now) }
-    ensures { RunAdds h.now g.now k.now i.now q.now from place count before result }
+    requires summed_upto { SummedUpto 64 before }
+    requires count_in_bounds { (from + count ≤ length rows.now.k) × (place + count ≤ length rows.now.k) }
+    ensures { RunAdds rows.now line.now.pairs from place count before result }
 {
+    let d = params::detector_of(rows.k.len());
     let to = from + count;
     let stop = place + count;
-    let d = params::detector_of(k.len());
-    let begin = clamped(d.low, from, to);
-    let end = clamped(d.high, from, to);
+    let begin = d.start.clamp(from, to);
+    let end = d.end.clamp(from, to);
     let begin_at = place + (begin - from);
     let end_at = place + (end - from);
     let detected = detector_run(
         before.detected,
-        &h[begin..end],
-        &g[begin..end],
-        &i[begin_at..end_at],
-        &q[begin_at..end_at],
+        &rows.h[begin..end],
+        &rows.g[begin..end],
+        &line.i[begin_at..end_at],
+        &line.q[begin_at..end_at],
     );
-    Summed {
-        detected,
-        output: output_run(
-            before.output,
-            &k[from..to],
-            &i[place..stop],
-            &q[place..stop],
-        ),
-    }
+    let output = output_run(
+        before.output,
+        &rows.k[from..to],
+        &line.i[place..stop],
+        &line.q[place..stop],
+    );
+    Summed { detected, output }
 }
 
-// The sums of h, g and k, each a row, over the line from its newest number on, which stands at `head`.
-pub(crate) fn filter(
-    h: &[i32],
-    g: &[i32],
-    k: &[i32],
-    i: &[u64],
-    q: &[u64],
-    head: usize,
-) -> [Sums; 3]
-    requires { Filterable h.now g.now k.now i.now q.now × (head < length k.now) }
-    ensures { Filters h.now g.now k.now i.now q.now head result }
+// The sums of h, g and k, each a row, over the line from its newest number on.
+pub(crate) fn filter(rows: &Rows<'_>, line: &Line) -> [Sums; 3]
+    requires { line.now.head < length rows.now.k }
+    ensures { result ≡ sums_of (length rows.now.k) rows.now.h line.now.pairs line.now.head
+        ∷ sums_of (length rows.now.k) rows.now.g line.now.pairs line.now.head
+        ∷ sums_of (length rows.now.k) rows.now.k line.now.pairs line.now.head ∷ [] }
 {
-    let cut = k.len() - head;
-    let first = line_run(nothing_summed(), h, g, k, i, q, 0, head, cut);
-    let both = line_run(first, h, g, k, i, q, cut, 0, head);
+    let head = line.head;
+    let cut = rows.k.len() - head;
+    let first = line_run(nothing_summed(), rows, line, 0, head, cut);
+    let both = line_run(first, rows, line, cut, 0, head);
     let detected = both.detected;
-    let a = detected.h;
-    let b = detected.g;
-    [a, b, unraised(both.output)]
+    [detected.h, detected.g, unraised(both.output)]
 }

@@ -34,108 +34,50 @@ mod mix;
 mod queue;
 mod sample;
 
-ghost use Rattle.std.specs.Prelude.{◌≡◌, [], length};
-ghost use Rattle.params.specs.Judge.{sheet_of};
+ghost use Rattle.std.specs.Prelude.{◌≡◌, [], length, Ok};
 ghost use Rattle.state.specs.Check.{block_faults};
 ghost use Rattle.fixed.specs.Block.{accepted, block_of, processed};
 
-use params::Params;
-use state::{Frontend, FrontendVerdict, RING_PLACES};
+use crate::sample::Running;
+use params::Sheet;
+use state::{Frontend, FrontendError};
 
-// What a block answers: the new state, how many pairs it took, how many symbols it wrote and their clips in all, or the state given and zeros.
+// What a block answers: how many pairs it took, how many symbols it wrote, and their clips in all.
 #[derive(Clone, Copy)]
 pub struct Processed {
-    pub verdict: FrontendVerdict,
-    pub state: Frontend,
     pub taken: usize,
     pub count: usize,
     pub clips: usize,
 }
 
 // A block of samples, I before Q; the places of its symbols go to `out`, 20 each (RULES 4). With a short `out` it takes fewer pairs than it is given: its
-// caller goes on from `taken`.
+// caller goes on from `taken`. Where it is refused, state and output are left as they were.
+#[tactic(auto, using(crate::proofs::Refused::refused_block, crate::proofs::Refused::accepted_block, crate::proofs::Refused::faults_none))]
 pub fn process(
-    f: Frontend,
-    p: Params,
-    h: &[i32],
-    g: &[i32],
-    k: &[i32],
+    f: &mut Frontend,
+    sheet: &Sheet<'_>,
     values: &[i16],
     out: &mut [i64],
-) -> Processed
-    ensures { processed result out.new ≡ block_of (sheet_of p h.now g.now k.now) f
-        values.now out.old }
+) -> Result<Processed, FrontendError>
+    ensures { processed result f.new out.new ≡ block_of sheet.now f.old values.now out.old }
 {
-    let verdict = f.check_block(p, h, g, k, values.len(), out.len());
-    match verdict {
-        FrontendVerdict::Accepted => run(f, p, h, g, k, values, &mut *out),
-        _ => Processed {
-            verdict,
-            state: f,
-            taken: 0,
-            count: 0,
-            clips: 0,
-        },
-    }
+    f.check_block(sheet, values.len(), out.len())?;
+    Ok(run(f, sheet, values, out))
 }
 
-// A block that nothing refuses: the line and the waiting errors are taken out of the state, lent to each sample that has places for a symbol, and put back.
-fn run(
-    f: Frontend,
-    p: Params,
-    h: &[i32],
-    g: &[i32],
-    k: &[i32],
-    values: &[i16],
-    out: &mut [i64],
-) -> Processed
-    requires { block_faults (sheet_of p h.now g.now k.now) f (length values.now) (length out.old) ≡ [] }
-    ensures { processed result out.new ≡ accepted (sheet_of p h.now g.now k.now) f
-        values.now out.old }
+// A block that nothing refuses: it goes through those samples that have places for a symbol. The sheet given is the held one, or 9 had refused it: so the
+// state goes on holding its own.
+fn run(f: &mut Frontend, sheet: &Sheet<'_>, values: &[i16], out: &mut [i64]) -> Processed
+    requires { block_faults sheet.now f.old (length values.now) (length out.old) ≡ [] }
+    ensures { processed (Ok result) f.new out.new ≡ accepted sheet.now f.old values.now out.old }
 {
     let taken = state::pairs_taken(values.len(), out.len());
-    let taps = p.taps as usize;
-    let mut i = [0u64; 64];
-    let mut q = [0u64; 64];
-    let mut e = [0i32; RING_PLACES];
-    let mut err = [0i32; RING_PLACES];
-    let line = f.line;
-    let pending = f.pending;
-    block::unpack_line(line, taps, &mut i, &mut q);
-    block::unpack_pending(pending, &mut e, &mut err);
-    let registers = f.registers;
-    let s = block::run(
-        p,
-        h,
-        g,
-        k,
-        &values[..2 * taken],
-        &mut *out,
-        &mut i,
-        &mut q,
-        &mut e,
-        &mut err,
-        registers,
-        f.position(),
-    );
-    let r = s.registers;
-    let w = s.position;
-    // The sheet given is the held one, or 9 had refused it: so nothing of the old state has to be kept while the samples run.
-    let state = Frontend {
-        params: p,
-        registers: r,
-        line: block::pack_line(line, taps, &i, &q),
-        head: w.head,
-        pending: block::pack_pending(pending, &e, &err),
-        oldest: w.oldest,
-        waiting: w.waiting,
-        samples: w.samples,
-    };
+    let mut running = Running::of(f);
+    let written = running.run(sheet, &values[..2 * taken], out);
+    running.put(f);
     Processed {
-        verdict: FrontendVerdict::Accepted,
-        state,
         taken,
-        count: s.count,
-        clips: s.clips,
+        count: written.count,
+        clips: written.clips,
     }
 }

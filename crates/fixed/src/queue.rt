@@ -1,70 +1,46 @@
-// The waiting errors, a ring: while a block runs, timing errors and gain errors are an array each.
-ghost use Rattle.std.specs.Prelude.{◌≡◌, ◌+◌, ◌*◌, ◌%◌, ◌<◌, ◌≤◌, length, if◌then◌else◌, slice_set};
+// The waiting errors, a ring (RULES 3.6).
+ghost use Rattle.std.specs.Prelude.{◌≡◌, ◌+◌, ◌%◌, ◌<◌, ◌≤◌, Some, None, if◌then◌else◌, slice_index_or, slice_set};
 ghost use Rattle.registers.specs.Step.{is_due};
-ghost use Rattle.state.specs.Start.{ring_places};
-ghost use Rattle.fixed.specs.Inside.{errors_at};
+ghost use Rattle.state.specs.Start.{ring_places, no_pending};
 
 use registers::Pending;
-use state::{Position, RING_PLACES};
+use state::RING_PLACES;
 
-// A position in the ring.
-fn in_ring(at: usize) -> usize
-    requires { at < 2 * ring_places }
-    ensures { result ≡ at % ring_places }
-{
-    if at < RING_PLACES {
-        return at;
-    }
-    at - RING_PLACES
+#[derive(Clone, Copy)]
+pub(crate) struct Queue {
+    pub(crate) places: [Pending; RING_PLACES],
+    // The oldest's place, and how many wait.
+    pub(crate) oldest: usize,
+    pub(crate) waiting: usize,
 }
 
-// The errors that wait longest.
-pub(crate) fn oldest(e: &[i32], err: &[i32], w: Position) -> Pending
-    requires e_len { (length e.now ≡ ring_places) × (length err.now ≡ ring_places) }
-    requires oldest_lt_ring_places { w.oldest < ring_places }
-    ensures { result ≡ errors_at e.now err.now w.oldest }
-{
-    let at = w.oldest;
-    Pending {
-        e: e[at],
-        err: err[at],
+impl Queue {
+    // The errors that are due: the oldest, where as many wait as the loop's delay.
+    pub(crate) fn due(&self, delay: u8) -> Option<Pending>
+        requires { self.now.oldest < ring_places }
+        ensures { result ≡ (if is_due delay self.now.waiting then Some (slice_index_or self.now.places self.now.oldest no_pending) else None) }
+    {
+        if registers::is_due(delay, self.waiting) {
+            return Some(self.places[self.oldest]);
+        }
+        None
     }
-}
 
-// A symbol's errors join behind the newest. Only where as many wait as the ring has places do they take the oldest's.
-pub(crate) fn join(e: &mut [i32], err: &mut [i32], w: Position, a: i32, b: i32)
-    requires e_len { (length e.old ≡ ring_places) × (length err.old ≡ ring_places) }
-    requires oldest_lt_ring_places { (w.oldest < ring_places) × (w.waiting ≤ ring_places) }
-    ensures e_after { e.new ≡ slice_set e.old ((w.oldest + w.waiting) % ring_places) a }
-    ensures err_after { err.new ≡ slice_set err.old ((w.oldest + w.waiting) % ring_places) b }
-{
-    let at = in_ring(w.oldest + w.waiting);
-    e[at] = a;
-    err[at] = b;
-}
-
-// The positions after a symbol's sample: where as many errors wait as the delay the oldest leave, and otherwise one more waits.
-pub(crate) fn after_symbol(delay: u8, w: Position) -> Position
-    requires { (w.oldest < ring_places) × ((w.waiting ≤ ring_places) × (w.samples < 9223372036854775807)) }
-    ensures { result ≡ record {
-      head = w.head;
-      oldest = (if is_due delay w.waiting then (w.oldest + 1) % ring_places else w.oldest);
-      waiting = (if is_due delay w.waiting then w.waiting else w.waiting + 1);
-      samples = w.samples + 1;
-    } }
-{
-    if registers::is_due(delay, w.waiting) {
-        return Position {
-            head: w.head,
-            oldest: in_ring(w.oldest + 1),
-            waiting: w.waiting,
-            samples: w.samples + 1,
-        };
-    }
-    Position {
-        head: w.head,
-        oldest: w.oldest,
-        waiting: w.waiting + 1,
-        samples: w.samples + 1,
+    // A symbol's errors join behind the newest, and the oldest leave where they were due. Only where as many wait as the ring has places do the new ones take
+    // the oldest's.
+    pub(crate) fn join(&mut self, delay: u8, w: Pending)
+        requires { (self.old.oldest < ring_places) × (self.old.waiting ≤ ring_places) }
+        ensures { self.new ≡ record {
+          places = slice_set self.old.places ((self.old.oldest + self.old.waiting) % ring_places) w;
+          oldest = (if is_due delay self.old.waiting then (self.old.oldest + 1) % ring_places else self.old.oldest);
+          waiting = (if is_due delay self.old.waiting then self.old.waiting else self.old.waiting + 1);
+        } }
+    {
+        self.places[(self.oldest + self.waiting) % RING_PLACES] = w;
+        if registers::is_due(delay, self.waiting) {
+            self.oldest = (self.oldest + 1) % RING_PLACES;
+        } else {
+            self.waiting += 1;
+        }
     }
 }

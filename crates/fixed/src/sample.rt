@@ -1,203 +1,116 @@
 // One sample: it is mixed and joins the line, a symbol is made if one falls due, and the time goes on (RULES 3).
-ghost use Rattle.std.specs.Prelude.{◌≡◌, ◌+◌, ◌^◌, ◌<◌, ◌≤◌, true, false, List, ◌-ℤ◌, int_lt, unsigned_abs};
-ghost use Rattle.params.specs.Judge.{sheet_of};
-ghost use Rattle.registers.specs.Step.{one};
+ghost use Rattle.std.specs.Prelude.{◌≡◌, ◌^◌, ◌<◌, ◌≤◌, true, List, ℤ, unsigned_abs};
+ghost use Rattle.params.specs.Refusal.{nothing};
+ghost use Rattle.params.specs.Judge.{judged, sheet_of};
 ghost use Rattle.tables.specs.Wheel.{wheel_table};
-ghost use Rattle.state.specs.declared.Pair.{Pair};
 ghost use Rattle.fixed.specs.Filter.{filtered};
-ghost use Rattle.fixed.specs.Inside.{Laid, kept, Tuned, Ready, MakesSymbol, Pushes};
+ghost use Rattle.fixed.specs.Sample.{joined, symbol_of, with_symbol, without_symbol, falls, next, made_by};
+ghost use Rattle.fixed.specs.Inside.{state_of, Ready, made};
 
-use crate::{filter, line, mix, queue};
-use params::Params;
-use registers::Registers;
-use state::Position;
-use symbol::{Output, Sums, Symbol};
+use crate::filter::{self, Rows};
+use crate::line::Line;
+use crate::mix;
+use crate::queue::Queue;
+use params::{Params, Sheet};
+use registers::{Pending, Registers};
+use symbol::{Sums, Symbol};
 
-// What a sample leaves: the registers and positions after it, and a symbol with a flag that says whether one was made.
-#[derive(Clone, Copy)]
-pub(crate) struct Pushed {
+// What a block keeps while it runs: the state, but for the sheet, and with the line as the filter takes it.
+#[derive(Drop)]
+pub(crate) struct Running {
     pub(crate) registers: Registers,
-    pub(crate) position: Position,
-    pub(crate) made: bool,
-    pub(crate) symbol: Symbol,
+    pub(crate) line: Line,
+    pub(crate) queue: Queue,
+    pub(crate) samples: u64,
 }
 
-// ---- step 3 with a symbol
-
-// The three banks' sums over the line: only row `phase` of each bank goes to the filter.
-fn sums_at(
-    p: Params,
-    h: &[i32],
-    g: &[i32],
-    k: &[i32],
-    i: &[u64],
-    q: &[u64],
-    w: Position,
-    phase: usize,
-) -> [Sums; 3]
-    requires tuned { Tuned (sheet_of p h.now g.now k.now) i.now q.now w }
-    requires phase_bound { phase < 64 }
-    ensures { (l : List Pair) → Laid p.taps i.now q.now l
-        → result ≡ filtered (sheet_of p h.now g.now k.now) phase l w.head }
-{
-    let taps = p.taps as usize;
-    let a = phase * taps;
-    let b = a + taps;
-    filter::filter(&h[a..b], &g[a..b], &k[a..b], i, q, w.head)
-}
-
-// The registers step first: the symbol reports the gain and the period that they then have.
-fn with_symbol(
-    p: Params,
-    h: &[i32],
-    g: &[i32],
-    k: &[i32],
-    i: &[u64],
-    q: &[u64],
-    e: &mut [i32],
-    err: &mut [i32],
-    r: Registers,
-    w: Position,
-) -> Pushed
-    requires ready { Ready (sheet_of p h.now g.now k.now) (kept i.now q.now e.old err.old r w) }
-    requires one_value { int_lt r.t_acc one ≡ true }
-    ensures made { result.made ≡ true }
-    ensures symbol { MakesSymbol (sheet_of p h.now g.now k.now)
-        (kept i.now q.now e.old err.old r w)
-        (kept i.now q.now e.new err.new result.registers result.position) result.symbol }
-{
-    let phase = (r.t_acc >> 18) as usize;
-    let oldest = queue::oldest(&*e, &*err, w);
-    let stepped = r.after_symbol(p, registers::is_due(p.delay, w.waiting), oldest);
-    let registers = stepped.registers;
-    let sums = sums_at(p, h, g, k, i, q, w, phase);
-    let symbol = Symbol::make(
-        p,
-        registers.gain(),
-        registers.period,
-        w.samples,
-        phase as u8,
-        sums,
-    );
-    queue::join(&mut *e, &mut *err, w, symbol.e, symbol.err);
-    let position = queue::after_symbol(p.delay, w);
-    Pushed {
-        registers,
-        position,
-        made: true,
-        symbol,
+impl Running {
+    // Steps 1 and 2: the sample is mixed, the phase word goes on, and the mixed sample is the line's newest.
+    fn join(&mut self, p: Params, cos: &[i16; 1024], i: i16, q: i16)
+        requires wheel { cos.now ≡ wheel_table }
+        requires head { (self.old.line.head < p.taps) × (p.taps ≤ 64) }
+        ensures { (h g k : List ℤ) → state_of p self.new ≡ joined (sheet_of p h g k) (state_of p self.old) (record { i = i; q = q }) }
+    {
+        let m = mix::mix(cos, self.registers.nco, i, q);
+        self.line.push(p.taps as usize, m);
+        self.registers.nco = mix::next_nco(self.registers.nco, p.nco_step);
     }
-}
 
-// ---- step 3 without a symbol
-
-fn no_output() -> Output {
-    Output { i: 0, q: 0 }
-}
-
-// What stands beside the flag where no symbol was made.
-fn no_symbol() -> Symbol {
-    let none = no_output();
-    Symbol {
-        sample: 0,
-        phase: 0,
-        y: none,
-        dy: none,
-        yk: none,
-        gain: 0,
-        period: 0,
-        z: none,
-        dz: none,
-        zk: none,
-        q: none,
-        e: 0,
-        err: 0,
-        clips: 0,
+    // The three banks' sums over the line: only row `phase` of each bank goes to the filter.
+    fn sums_at(&self, sheet: &Sheet<'_>, phase: usize) -> [Sums; 3]
+        requires accepted { judged sheet.now ≡ nothing }
+        requires bounds { (self.now.line.head < sheet.now.params.taps) × (phase < 64) }
+        ensures { result ≡ filtered sheet.now phase self.now.line.pairs self.now.line.head }
+    {
+        let taps = sheet.params.taps as usize;
+        let a = phase * taps;
+        let b = a + taps;
+        let rows = Rows {
+            h: &sheet.h[a..b],
+            g: &sheet.g[a..b],
+            k: &sheet.k[a..b],
+        };
+        filter::filter(&rows, &self.line)
     }
-}
 
-// Only the time goes on.
-fn without_symbol(r: Registers, w: Position) -> Pushed
-    requires { (unsigned_abs r.t_acc ≤ 2 ^ 61) × (w.samples < 9223372036854775807) }
-    ensures registers { result.registers ≡ record {
-      nco = r.nco;
-      t_acc = r.t_acc -ℤ one;
-      v = r.v;
-      period = r.period;
-      gain_acc = r.gain_acc;
-      symbols = r.symbols;
-    } }
-    ensures position { result.position ≡ record { head = w.head; oldest = w.oldest; waiting = w.waiting; samples = w.samples + 1 } }
-    ensures made { result.made ≡ false }
-{
-    let registers = Registers {
-        nco: r.nco,
-        t_acc: r.t_acc - 0x100_0000,
-        v: r.v,
-        period: r.period,
-        gain_acc: r.gain_acc,
-        symbols: r.symbols,
-    };
-    let position = Position {
-        head: w.head,
-        oldest: w.oldest,
-        waiting: w.waiting,
-        samples: w.samples + 1,
-    };
-    Pushed {
-        registers,
-        position,
-        made: false,
-        symbol: no_symbol(),
+    // Step 3 with a symbol. The registers step first: the symbol reports the gain and the period that they then have.
+    fn make_symbol(&mut self, sheet: &Sheet<'_>) -> Symbol
+        requires ready { Ready sheet.now (state_of sheet.now.params self.old) }
+        requires due { falls (state_of sheet.now.params self.old) ≡ true }
+        ensures symbol { result ≡ symbol_of sheet.now (state_of sheet.now.params self.old) }
+        ensures state { state_of sheet.now.params self.new ≡ with_symbol sheet.now (state_of sheet.now.params self.old) }
+    {
+        let p = sheet.params;
+        let phase = (self.registers.t_acc >> 18) as usize;
+        let due = self.queue.due(p.delay);
+        self.registers.step(p, due);
+        let sums = self.sums_at(sheet, phase);
+        let symbol = Symbol::make(
+            p,
+            self.registers.gain(),
+            self.registers.period,
+            self.samples,
+            phase as u8,
+            sums,
+        );
+        self.queue.join(
+            p.delay,
+            Pending {
+                e: symbol.e,
+                err: symbol.err,
+            },
+        );
+        self.samples += 1;
+        symbol
     }
-}
 
-// ---- a sample
-
-// Pushes one sample; a symbol is made at it, or none.
-pub(crate) fn push(
-    cos: &[i16; 1024],
-    p: Params,
-    h: &[i32],
-    g: &[i32],
-    k: &[i32],
-    i: &mut [u64],
-    q: &mut [u64],
-    e: &mut [i32],
-    err: &mut [i32],
-    r: Registers,
-    w: Position,
-    x: i16,
-    y: i16,
-) -> Pushed
-    requires cos_value { cos.now ≡ wheel_table }
-    requires ready { Ready (sheet_of p h.now g.now k.now) (kept i.old q.old e.old err.old r w) }
-    ensures { Pushes (sheet_of p h.now g.now k.now)
-        (kept i.old q.old e.old err.old r w)
-        (kept i.new q.new e.new err.new result.registers result.position)
-        (record { i = x; q = y }) result.made result.symbol }
-{
-    let taps = p.taps as usize;
-    let m = mix::mix(cos, r.nco, x, y);
-    let head = line::next_head(taps, w.head);
-    i[head] = line::raise(m.i);
-    q[head] = line::raise(m.q);
-    let turned = Registers {
-        nco: mix::next_nco(r.nco, p.nco_step),
-        t_acc: r.t_acc,
-        v: r.v,
-        period: r.period,
-        gain_acc: r.gain_acc,
-        symbols: r.symbols,
-    };
-    let joined = Position {
-        head,
-        oldest: w.oldest,
-        waiting: w.waiting,
-        samples: w.samples,
-    };
-    if r.t_acc < 0x100_0000 {
-        return with_symbol(p, h, g, k, &*i, &*q, &mut *e, &mut *err, turned, joined);
+    // Step 3 without a symbol: only the time goes on.
+    fn go_on(&mut self, p: Params)
+        requires ready { (unsigned_abs self.old.registers.t_acc ≤ 2 ^ 61) × (self.old.samples < 9223372036854775807) }
+        ensures { state_of p self.new ≡ without_symbol (state_of p self.old) }
+    {
+        self.registers.t_acc -= 0x100_0000;
+        self.samples += 1;
     }
-    without_symbol(turned, joined)
+
+    // Pushes one sample; a symbol is made at it, or none.
+    pub(crate) fn push(
+        &mut self,
+        sheet: &Sheet<'_>,
+        cos: &[i16; 1024],
+        i: i16,
+        q: i16,
+    ) -> Option<Symbol>
+        requires wheel { cos.now ≡ wheel_table }
+        requires ready { Ready sheet.now (state_of sheet.now.params self.old) }
+        ensures state { state_of sheet.now.params self.new ≡ next sheet.now (state_of sheet.now.params self.old) (record { i = i; q = q }) }
+        ensures symbol { made result ≡ made_by sheet.now (state_of sheet.now.params self.old) (record { i = i; q = q }) }
+    {
+        self.join(sheet.params, cos, i, q);
+        if self.registers.t_acc < 0x100_0000 {
+            return Some(self.make_symbol(sheet));
+        }
+        self.go_on(sheet.params);
+        None
+    }
 }

@@ -1,5 +1,3 @@
--- The laws on floats that the proofs of this crate and of the crates above it cite, a file for each subject.
-pub mod Doubled
-pub mod Ends
+-- What the library's rounding of a float is to the rule's, and how a cast to few bits is made of one to many.
 pub mod Rounded
 pub mod Narrow

@@ -5,9 +5,8 @@ use mathlib.Core.Path.{◌≡◌, refl, sym, ap, ◌∙◌}
 use mathlib.Core.Bool.{Bool, true, false, ◌&&◌, and-true, and-false, and_assoc, false≢true}
 use mathlib.Core.List.{List, [], ◌∷◌, ◌++◌}
 use native.Mathlib.Omega.{arith}
-use native.Mathlib.Numerals.{add-one}
 use lib.Dec.{T}
-use lib.ListN.{length, get_or, take, drop, drop_of_length-le}
+use lib.ListN.{length, get_or, take, drop}
 use lib.Seq.{drop-cons}
 use lib.IntN.{ℤ, pos, nat_abs}
 use lib.Signed.{le_z, non_neg, pos-nat_abs}
@@ -15,76 +14,66 @@ use mir.Syntax.{Width, w8, w16, w32, w64}
 use mir.Val.{Fits, SFits}
 use Rattle.arith.proofs.Both.{and_left, and_right, and_both}
 use Rattle.arith.proofs.Order.{pos_part, neg_part, nat-pn, le-pn, pn-le, pn-fit, unsign}
-use Rattle.kinds.specs.Kinds.{at, u8, u32, i16, i32, count, least_of, most_of, is_kind, are_kinds, KindAt}
+use Rattle.kinds.specs.declared.Kind.{Kind}
+use Rattle.kinds.specs.declared.Kind.TheVariants.{U8, U32, I16, I32, Count}
+use Rattle.kinds.specs.Kinds.{at, least_of, most_of, is_kind, are_kinds, KindAt}
 
 -- ---- a number of a kind fits the type
 
-at_least : (kind : ℕ) (z : ℤ) → is_kind kind z ≡ true → pos_part (least_of kind) + neg_part z ≤ pos_part z + neg_part (least_of kind)
-unfolding is_kind
+at_least : (kind : Kind) (z : ℤ) → is_kind kind z ≡ true → pos_part (least_of kind) + neg_part z ≤ pos_part z + neg_part (least_of kind)
 at_least kind z e = le-pn (least_of kind) z (and_left (le_z (least_of kind) z) (le_z z (most_of kind)) e)
 
-at_most : (kind : ℕ) (z : ℤ) → is_kind kind z ≡ true → pos_part z + neg_part (most_of kind) ≤ pos_part (most_of kind) + neg_part z
-unfolding is_kind
+at_most : (kind : Kind) (z : ℤ) → is_kind kind z ≡ true → pos_part z + neg_part (most_of kind) ≤ pos_part (most_of kind) + neg_part z
 at_most kind z e = le-pn z (most_of kind) (and_right (le_z (least_of kind) z) (le_z z (most_of kind)) e)
 
 -- a number that an unsigned field takes
 abbrev pub Natural : Width → ℤ → Type 0
 Natural w z = T (non_neg z) × Fits w (nat_abs z)
 
-pub is-u8 : (z : ℤ) → is_kind u8 z ≡ true → Natural w8 z
-unfolding least_of most_of
-is-u8 z e = unsign w8 z (omega (arith, at_least u8 z e)) (omega (arith, at_most u8 z e))
+pub is-u8 : (z : ℤ) → is_kind U8 z ≡ true → Natural w8 z
+is-u8 z e = unsign w8 z (omega (arith, at_least U8 z e)) (omega (arith, at_most U8 z e))
 
-pub is-u32 : (z : ℤ) → is_kind u32 z ≡ true → Natural w32 z
-unfolding least_of most_of
-is-u32 z e = unsign w32 z (omega (arith, at_least u32 z e)) (omega (arith, at_most u32 z e))
+pub is-u32 : (z : ℤ) → is_kind U32 z ≡ true → Natural w32 z
+is-u32 z e = unsign w32 z (omega (arith, at_least U32 z e)) (omega (arith, at_most U32 z e))
 
-pub is-count : (z : ℤ) → is_kind count z ≡ true → Natural w64 z
-unfolding least_of most_of
-is-count z e = unsign w64 z (omega (arith, at_least count z e)) (omega (arith, at_most count z e))
+pub is-count : (z : ℤ) → is_kind Count z ≡ true → Natural w64 z
+is-count z e = unsign w64 z (omega (arith, at_least Count z e)) (omega (arith, at_most Count z e))
 
-pub count_small : (z : ℤ) → is_kind count z ≡ true → nat_abs z ≤ 9223372036854775807
-unfolding least_of most_of
+pub count_small : (z : ℤ) → is_kind Count z ≡ true → nat_abs z ≤ 9223372036854775807
 count_small z e =
-    let low : neg_part z ≤ pos_part z = omega (arith, at_least count z e) in
-    omega (arith, nat-pn z low, at_most count z e)
+    let low : neg_part z ≤ pos_part z = omega (arith, at_least Count z e) in
+    omega (arith, nat-pn z low, at_most Count z e)
 
-pub is-i16 : (z : ℤ) → is_kind i16 z ≡ true → SFits w16 z
-unfolding least_of most_of
-is-i16 z e = pn-fit (omega (arith, at_most i16 z e)) (omega (arith, at_least i16 z e))
+pub is-i16 : (z : ℤ) → is_kind I16 z ≡ true → SFits w16 z
+is-i16 z e = pn-fit (omega (arith, at_most I16 z e)) (omega (arith, at_least I16 z e))
 
-pub is-i32 : (z : ℤ) → is_kind i32 z ≡ true → SFits w32 z
-unfolding least_of most_of
-is-i32 z e = pn-fit (omega (arith, at_most i32 z e)) (omega (arith, at_least i32 z e))
+pub is-i32 : (z : ℤ) → is_kind I32 z ≡ true → SFits w32 z
+is-i32 z e = pn-fit (omega (arith, at_most I32 z e)) (omega (arith, at_least I32 z e))
 
 -- ---- without its sign it is the same
 
-pub own-u8 : (z : ℤ) → is_kind u8 z ≡ true → pos (nat_abs z) ≡ z
+pub own-u8 : (z : ℤ) → is_kind U8 z ≡ true → pos (nat_abs z) ≡ z
 own-u8 z e = pos-nat_abs z (is-u8 z e).0
 
-pub own-u32 : (z : ℤ) → is_kind u32 z ≡ true → pos (nat_abs z) ≡ z
+pub own-u32 : (z : ℤ) → is_kind U32 z ≡ true → pos (nat_abs z) ≡ z
 own-u32 z e = pos-nat_abs z (is-u32 z e).0
 
-pub own-count : (z : ℤ) → is_kind count z ≡ true → pos (nat_abs z) ≡ z
+pub own-count : (z : ℤ) → is_kind Count z ≡ true → pos (nat_abs z) ≡ z
 own-count z e = pos-nat_abs z (is-count z e).0
 
 -- ---- a number that fits the type is one of the kind
 
-of-kind : (kind : ℕ) (z : ℤ) → pos_part (least_of kind) + neg_part z ≤ pos_part z + neg_part (least_of kind) → pos_part z + neg_part (most_of kind) ≤ pos_part (most_of kind) + neg_part z → is_kind kind z ≡ true
-unfolding is_kind
+of-kind : (kind : Kind) (z : ℤ) → pos_part (least_of kind) + neg_part z ≤ pos_part z + neg_part (least_of kind) → pos_part z + neg_part (most_of kind) ≤ pos_part (most_of kind) + neg_part z → is_kind kind z ≡ true
 of-kind kind z low high = and_both (pn-le (least_of kind) z low) (pn-le z (most_of kind) high)
 
-pub u8_is : (n : ℕ) → n < 256 → is_kind u8 (pos n) ≡ true
-unfolding least_of most_of
-u8_is n h = of-kind u8 (pos n) (omega arith) (omega arith)
+pub u8_is : (n : ℕ) → n < 256 → is_kind U8 (pos n) ≡ true
+u8_is n h = of-kind U8 (pos n) (omega arith) (omega arith)
 
-pub u32-is : (n : ℕ) → n < 4294967296 → is_kind u32 (pos n) ≡ true
-unfolding least_of most_of
-u32-is n h = of-kind u32 (pos n) (omega arith) (omega arith)
+pub u32-is : (n : ℕ) → n < 4294967296 → is_kind U32 (pos n) ≡ true
+u32-is n h = of-kind U32 (pos n) (omega arith) (omega arith)
 
-pub i32-is : (z : ℤ) → pos_part z < 2147483648 + neg_part z → neg_part z ≤ 2147483648 + pos_part z → is_kind i32 z ≡ true
-unfolding least_of most_of
-i32-is z high low = of-kind i32 z (omega arith) (omega arith)
+pub i32-is : (z : ℤ) → pos_part z < 2147483648 + neg_part z → neg_part z ≤ 2147483648 + pos_part z → is_kind I32 z ≡ true
+i32-is z high low = of-kind I32 z (omega arith) (omega arith)
 
 -- ---- a place in front of those behind it
 
@@ -93,7 +82,7 @@ front l n h e k = (λ i. e i ∷ k i) ∙ sym (drop-cons l n (pos 0) h)
 
 -- ---- places that were looked at
 
-pub kind_at : (kinds : List ℕ) (l : List ℤ) → are_kinds kinds l ≡ true → (n : ℕ) → n < length kinds → KindAt (get_or kinds n 0) l n
+pub kind_at : (kinds : List Kind) (l : List ℤ) → are_kinds kinds l ≡ true → (n : ℕ) → n < length kinds → KindAt (get_or kinds n U8) l n
 unfolding are_kinds
 kind_at [] l e n h = absurd (omega arith)
 kind_at (kind ∷ kinds) [] e n h = absurd (false≢true e)
@@ -103,43 +92,42 @@ kind_at (kind ∷ kinds) (z ∷ l) e (suc n) h =
     record { inside = omega arith; is = rest.is }
 
 -- fewer places than kinds
-pub too_few : (kinds : List ℕ) (l : List ℤ) → length l < length kinds → are_kinds kinds l ≡ false
+pub too_few : (kinds : List Kind) (l : List ℤ) → length l < length kinds → are_kinds kinds l ≡ false
 unfolding are_kinds
 too_few [] l h = absurd (omega arith)
 too_few (kind ∷ kinds) [] h = refl
 too_few (kind ∷ kinds) (z ∷ l) h = rw (too_few kinds l (omega arith)) (and-false (is_kind kind z))
 
+-- the places behind those that the kinds take are not looked at
+pub places-taken : (kinds : List Kind) (l : List ℤ) → are_kinds kinds l ≡ are_kinds kinds (take (length kinds) l)
+unfolding are_kinds
+places-taken [] l = refl
+places-taken (kind ∷ kinds) [] = refl
+places-taken (kind ∷ kinds) (z ∷ l) = ap (λ (t : Bool). is_kind kind z && t) (places-taken kinds l)
+
 -- ---- places that are looked at one after the other
 
--- after n of the kinds: whether the first n places are of theirs was found, and the places behind them decide the rest
-pub record SoFar (kinds : List ℕ) (l : List ℤ) (good : Bool) (n : ℕ) : Type 0 where
-  pub inside : n ≤ length kinds
-  pub is : are_kinds kinds l ≡ (good && are_kinds (drop n kinds) (drop n l))
+-- whether the places so far are of their kinds was found, and the kinds and places that are left decide the rest
+pub record SoFar (whole good : Bool) (kinds : List Kind) (l : List ℤ) : Type 0 where
+  pub is : whole ≡ (good && are_kinds kinds l)
+  pub long : length kinds ≡ length l
 
-pub so-far-none : (kinds : List ℕ) (l : List ℤ) → SoFar kinds l true 0
-so-far-none kinds l = record { inside = omega arith; is = refl }
-
-next-kind : (kinds : List ℕ) (l : List ℤ) (n : ℕ) → n < length kinds → n < length l
-    → are_kinds (drop n kinds) (drop n l) ≡ (is_kind (get_or kinds n 0) (at l n) && are_kinds (drop (n + 1) kinds) (drop (n + 1) l))
+pub so-far-step : {whole good next : Bool} {kinds left : List Kind} {l rest : List ℤ} {kind : Kind} {z : ℤ} → SoFar whole good kinds l
+    → kinds ≡ kind ∷ left → l ≡ z ∷ rest → next ≡ (good && is_kind kind z) → SoFar whole next left rest
 unfolding are_kinds
-next-kind kinds l n h k = rw (add-one, drop-cons kinds n 0 h, drop-cons l n (pos 0) k)
+so-far-step {good = good} {left = left} {rest = rest} {kind = kind} {z = z} s k v e = record {
+  is = s.is ∙ (λ i. good && are_kinds (k i) (v i)) ∙ sym (and_assoc good (is_kind kind z) (are_kinds left rest)) ∙ ap (λ (t : Bool). t && are_kinds left rest) (sym e);
+  long = omega (arith, rw (k, v) at s.long);
+}
 
-pub so-far-step : (kinds : List ℕ) (l : List ℤ) {good next : Bool} {n : ℕ} → SoFar kinds l good n → n < length kinds → n < length l
-    → next ≡ (good && is_kind (get_or kinds n 0) (at l n)) → SoFar kinds l next (n + 1)
-so-far-step kinds l {good} {next} {n} s h k e =
-    let rest : Bool = are_kinds (drop (n + 1) kinds) (drop (n + 1) l) in
-    let split = s.is ∙ ap (λ (t : Bool). good && t) (next-kind kinds l n h k) ∙ sym (and_assoc good (is_kind (get_or kinds n 0) (at l n)) rest) in
-    record { inside = omega arith; is = split ∙ ap (λ (t : Bool). t && rest) (sym e) }
-
-pub so-far-all : (kinds : List ℕ) (l : List ℤ) {good : Bool} {n : ℕ} → SoFar kinds l good n → length kinds ≤ n → good ≡ are_kinds kinds l
+pub so-far-all : {whole good : Bool} {kinds : List Kind} {l : List ℤ} → SoFar whole good kinds l → kinds ≡ [] → good ≡ whole
 unfolding are_kinds
-so-far-all kinds l {good} {n} s h =
-    sym (s.is ∙ ap (λ (k : List ℕ). good && are_kinds k (drop n l)) (drop_of_length-le kinds {i = n} h) ∙ and-true good)
+so-far-all {good = good} {l = l} s k = sym (s.is ∙ (λ i. good && are_kinds (k i) l) ∙ and-true good)
 
 -- ---- kinds in two parts
 
 -- the first places are looked at by the first kinds, and those behind them by the others
-pub kinds-append : (kinds others : List ℕ) (l : List ℤ)
+pub kinds-append : (kinds others : List Kind) (l : List ℤ)
     → are_kinds (kinds ++ others) l ≡ (are_kinds kinds (take (length kinds) l) && are_kinds others (drop (length kinds) l))
 unfolding are_kinds
 kinds-append [] others l = refl

@@ -8,15 +8,16 @@ use lib.Dec.{eqb}
 use lib.ListN.{length, get_or}
 use lib.IntN.{ℤ}
 use borrow.Author.Tests.{eqb-true}
+use Rattle.kinds.specs.declared.Kind.{Kind}
+use Rattle.kinds.specs.declared.Kind.TheVariants.{U8}
 use Rattle.kinds.specs.Kinds.{are_kinds, places_number, KindAt}
 use Rattle.kinds.proofs.OfKind.{kind_at}
 
-pub record Readable (kinds : List ℕ) (l : List ℤ) : Type 0 where
+pub record Readable (kinds : List Kind) (l : List ℤ) : Type 0 where
   pub long : length l ≡ length kinds
   pub each : are_kinds kinds l ≡ true
 
-pub readable : (kinds : List ℕ) (l : List ℤ) → places_number kinds l ≡ 0 → Readable kinds l
-unfolding places_number
+pub readable : (kinds : List Kind) (l : List ℤ) → places_number kinds l ≡ 0 → Readable kinds l
 readable kinds l e = go (eqb (length l) (length kinds)) (are_kinds kinds l) refl refl e
   where
     go : (a b : Bool) → eqb (length l) (length kinds) ≡ a → are_kinds kinds l ≡ b → ◌≡◌ {A = ℕ} (cond a (cond b 0 19) 18) 0 → Readable kinds l
@@ -24,5 +25,5 @@ readable kinds l e = go (eqb (length l) (length kinds)) (are_kinds kinds l) refl
     go true false t k e = absurd (omega arith)
     go false b t k e = absurd (omega arith)
 
-pub readable-at : (kinds : List ℕ) (l : List ℤ) → places_number kinds l ≡ 0 → (n : ℕ) → n < length kinds → KindAt (get_or kinds n 0) l n
+pub readable-at : (kinds : List Kind) (l : List ℤ) → places_number kinds l ≡ 0 → (n : ℕ) → n < length kinds → KindAt (get_or kinds n U8) l n
 readable-at kinds l e n h = kind_at kinds l (readable kinds l e).each n h

@@ -1,101 +1,100 @@
-// The types of numbers that fields have, by one numbering for the whole repository: what each of them takes, and whether places hold numbers of theirs.
+// The types of numbers that fields have, one enum for the whole repository: what each of them takes, and whether places hold numbers of theirs.
 //
 // A place is a signed number of 64 bits, in which sheets, states and answers cross to C and in which the fields of a line are read.
 #![tactic(auto)]
 
-ghost use Rattle.std.specs.Prelude.{◌≡◌, ◌&&◌};
-ghost use Rattle.kinds.specs.Kinds.{least_of, most_of, is_kind, are_kinds, places_number};
+ghost use Rattle.std.specs.Prelude.{◌≡◌};
+ghost use Rattle.kinds.specs.Kinds.{least_of, most_of, is_kind, are_kinds, places_number, field_number};
+ghost use Rattle.kinds.specs.Answer.{answer_number};
 
-pub const U8: u8 = 0;
-
-pub const U32: u8 = 1;
-
-pub const I16: u8 = 2;
-
-pub const I32: u8 = 3;
-
-pub const I64: u8 = 4;
-
-// A count is unsigned of 64 bits; a place takes the lower half of these.
-pub const COUNT: u8 = 5;
-
-// The least number of a kind.
-pub fn least_of(kind: u8) -> i64
-    ensures { result ≡ least_of kind }
-{
-    if kind == I16 {
-        return -0x8000;
-    }
-    if kind == I32 {
-        return -0x8000_0000;
-    }
-    if kind == I64 {
-        return -0x8000_0000_0000_0000;
-    }
-    0
+#[derive(Clone, Copy, PartialEq, Eq, Debug)]
+pub enum Kind {
+    U8,
+    U32,
+    I16,
+    I32,
+    I64,
+    // Unsigned of 64 bits; a place takes the lower half of these.
+    Count,
 }
 
-// The greatest.
-pub fn most_of(kind: u8) -> i64
-    ensures { result ≡ most_of kind }
-{
-    if kind == U8 {
-        return 0xff;
+impl Kind {
+    pub fn least(self) -> i64
+        ensures { result ≡ least_of self }
+    {
+        match self {
+            Kind::U8 | Kind::U32 | Kind::Count => 0,
+            Kind::I16 => i64::from(i16::MIN),
+            Kind::I32 => i64::from(i32::MIN),
+            Kind::I64 => i64::MIN,
+        }
     }
-    if kind == U32 {
-        return 0xffff_ffff;
+
+    pub fn most(self) -> i64
+        ensures { result ≡ most_of self }
+    {
+        match self {
+            Kind::U8 => i64::from(u8::MAX),
+            Kind::U32 => i64::from(u32::MAX),
+            Kind::I16 => i64::from(i16::MAX),
+            Kind::I32 => i64::from(i32::MAX),
+            Kind::I64 | Kind::Count => i64::MAX,
+        }
     }
-    if kind == I16 {
-        return 0x7fff;
+
+    // Both ends are tested, whatever the first test says: with no branch between them the loop below is short enough for the compiler to unroll.
+    fn takes(self, v: i64) -> bool
+        ensures { result ≡ is_kind self v }
+    {
+        (self.least() <= v) & (v <= self.most())
     }
-    if kind == I32 {
-        return 0x7fff_ffff;
-    }
-    0x7fff_ffff_ffff_ffff
 }
 
-fn both(a: bool, b: bool) -> bool
-    ensures { result ≡ (a && b) }
-{
-    if a {
-        return b;
-    }
-    false
+// Why fields cannot be read.
+#[derive(Clone, Copy, PartialEq, Eq, Debug)]
+pub enum FieldError {
+    // There is another number of them, or one that is not written as a number.
+    Malformed,
+    // One is outside its type.
+    OutOfRange,
 }
 
-// Both ends are tested, whatever the first test says: with no branch between them the loop below is short enough for the compiler to unroll.
-fn is_kind(kind: u8, v: i64) -> bool
-    ensures { result ≡ is_kind kind v }
-{
-    both(least_of(kind) <= v, v <= most_of(kind))
+impl FieldError {
+    pub fn number(self) -> u32
+        ensures { result ≡ field_number self }
+    {
+        match self {
+            FieldError::Malformed => 18,
+            FieldError::OutOfRange => 19,
+        }
+    }
 }
 
 // Whether there is a place for each kind, with a number of it. A number of another kind does not end the loop: the compiler unrolls it for a sheet's 18
 // places, and would take the code behind 18 ways out for code that hardly ever runs.
-pub fn are_kinds(kinds: &[u8], places: &[i64]) -> bool
+#[tactic(auto, using(crate::proofs::OfKind::too_few))]
+pub fn are_kinds(kinds: &[Kind], places: &[i64]) -> bool
     ensures { result ≡ are_kinds kinds.now places.now }
 {
-    if places.len() < kinds.len() {
+    let Some(places) = places.get(..kinds.len()) else {
         return false;
-    }
+    };
     let mut good = true;
-    let mut n: usize = 0;
-    while n < kinds.len() {
-        good = both(good, is_kind(kinds[n], places[n]));
-        n += 1;
+    for (kind, place) in kinds.iter().zip(places) {
+        good &= kind.takes(*place);
     }
     good
 }
 
-// 18 for another number of places than of kinds, 19 for a number that is not one of its kind, and 0 for places that can be read.
-pub fn fault(kinds: &[u8], places: &[i64]) -> u32
-    ensures { result ≡ places_number kinds.now places.now }
+// Whether places can be read: as many as kinds, and each with a number of its kind.
+pub fn check(kinds: &[Kind], places: &[i64]) -> Result<(), FieldError>
+    ensures { answer_number field_number result ≡ places_number kinds.now places.now }
 {
     if places.len() != kinds.len() {
-        return 18;
+        return Err(FieldError::Malformed);
     }
     if !are_kinds(kinds, places) {
-        return 19;
+        return Err(FieldError::OutOfRange);
     }
-    0
+    Ok(())
 }

@@ -1,10 +1,9 @@
 -- The offset of a period from the nominal one.
 -- (RULES 6.1)
-use Rattle.std.specs.Prelude.{ℕ, cond, ◌&&◌, [], ◌++◌, leb, eqb, ℤ, pos, ◌-ℤ◌, ◌*ℤ◌}
+use Rattle.std.specs.Prelude.{ℕ, cond, ◌&&◌, [], ◌++◌, leb, eqb, ℤ, pos, ◌-ℤ◌, ◌*ℤ◌, Result, Ok, Err}
 use Rattle.arith.specs.Arith.{nearest_away}
 use Rattle.params.specs.declared.Params.{Params}
-use Rattle.offset.specs.declared.Offset.{Offset}
-use Rattle.offset.specs.declared.OffsetVerdict.{OffsetVerdict}
+use Rattle.offset.specs.declared.OffsetError.{OffsetError}
 use Rattle.params.specs.Refusal.{Refusal, refusal, nothing, error_refusal, unless, first_of}
 use Rattle.params.specs.Judge.{Sheet, faults}
 
@@ -13,14 +12,15 @@ pub record Parts : Type 0 where
   pub refused : Refusal
   pub parts : ℤ
 
--- The number of each case of an offset's answer: its sheet's, or 13.
-abbrev pub offset_refusal : OffsetVerdict → Refusal
-offset_refusal OffsetVerdict.Accepted = nothing
-offset_refusal (OffsetVerdict.Params e) = error_refusal e
-offset_refusal OffsetVerdict.Period = refusal 13 []
+-- The number of each case of an offset's refusal: its sheet's, or 13.
+abbrev pub offset_refusal : OffsetError → Refusal
+offset_refusal (OffsetError.Params e) = error_refusal e
+offset_refusal OffsetError.Period = refusal 13 []
 
-abbrev pub offset_parts : Offset → Parts
-offset_parts o = record { refused = offset_refusal o.verdict; parts = o.parts }
+-- What an answer tells: a refusal has 0 parts.
+abbrev pub offset_parts : Result ℤ OffsetError → Parts
+offset_parts (Ok parts) = record { refused = nothing; parts = parts }
+offset_parts (Err e) = record { refused = offset_refusal e; parts = pos 0 }
 
 -- How much longer the nominal period is, in parts per thousand million of the period, to the nearest whole number, ties away from zero: as much as the sender's
 -- rate is above the nominal one, in parts per thousand million of the nominal rate. Positive where the sender is fast.

@@ -1,68 +1,65 @@
 // The offset of a period from the nominal one: how fast the sender's clock is beside the receiver's (RULES 6.1).
 #![tactic(auto)]
 
-ghost use Rattle.std.specs.Prelude.{◌≡◌};
-ghost use Rattle.params.specs.Judge.{sheet_of};
+ghost use Rattle.std.specs.Prelude.{◌≡◌, ◌&&◌, nat_le};
 ghost use Rattle.offset.specs.Offset.{offset_refusal, offset_parts, parts_of, offset_of};
 
-use params::{ParamError, Params, Verdict};
+use params::{ParamError, Params, Sheet};
 
-// What the offset of a period answers beside its value: its sheet may be refused, or the period be one that the loop never sets
-// (RULES 6.1).
-#[derive(Clone, Copy)]
-pub enum OffsetVerdict {
-    Accepted,
+// Why a period has no offset: its sheet is refused, or the period is one that the loop never sets (RULES 6.1).
+#[derive(Clone, Copy, PartialEq, Eq, Debug)]
+pub enum OffsetError {
     Params(ParamError),
     Period,
 }
 
-// A period's offset from the nominal one, in parts per thousand million; 0 where it is refused.
-#[derive(Clone, Copy)]
-pub struct Offset {
-    pub verdict: OffsetVerdict,
-    pub parts: i64,
+impl From<ParamError> for OffsetError {
+    ghost use Rattle.offset.specs.declared.OffsetError.{OffsetError};
+
+    ghost from_gives = { λ e f. f ≡ OffsetError.Params e };
+
+    fn from(error: ParamError) -> OffsetError {
+        OffsetError::Params(error)
+    }
 }
 
-// Text and C have no enums: there a refusal is its number alone, and 0 is that of nothing refused.
-impl OffsetVerdict {
+// Text and C have no enums: there a refusal is its number alone.
+impl OffsetError {
     pub fn number(self) -> u32
         ensures { result ≡ (offset_refusal self).number }
     {
         match self {
-            OffsetVerdict::Accepted => 0,
-            OffsetVerdict::Params(e) => e.number(),
-            OffsetVerdict::Period => 13,
+            OffsetError::Params(e) => e.number(),
+            OffsetError::Period => 13,
         }
     }
 }
 
-// How fast a sender of this period is (RULES 6.1).
-pub fn of_period(p: Params, h: &[i32], g: &[i32], k: &[i32], period: u32) -> Offset
-    ensures { offset_parts result ≡ offset_of (sheet_of p h.now g.now k.now) period }
+// How fast a sender of this period is, in parts per thousand million (RULES 6.1).
+#[tactic(auto, using(params::proofs::Accepted::judging), unfolding(crate::specs::Offset::offset_of))]
+pub fn of_period(sheet: &Sheet<'_>, period: u32) -> Result<i64, OffsetError>
+    ensures { offset_parts result ≡ offset_of sheet.now period }
 {
-    let verdict = p.validate(h, g, k);
-    if let Verdict::Refused(e) = verdict {
-        return Offset {
-            verdict: OffsetVerdict::Params(e),
-            parts: 0,
-        };
+    sheet.validate()?;
+    let p = sheet.params;
+    if !is_in_bounds(p, period) {
+        return Err(OffsetError::Period);
     }
-    if !params::is_within(period, p.period_min, p.period_max) {
-        return Offset {
-            verdict: OffsetVerdict::Period,
-            parts: 0,
-        };
-    }
-    Offset {
-        verdict: OffsetVerdict::Accepted,
-        parts: parts_of(p, period),
-    }
+    Ok(parts_of(p, period))
+}
+
+// Whether the loop may set this period.
+fn is_in_bounds(p: Params, period: u32) -> bool
+    ensures { result ≡ (nat_le p.period_min period && nat_le period p.period_max) }
+{
+    (p.period_min..=p.period_max).contains(&period)
 }
 
 // How much longer the nominal period is, in parts of the period: a sender with the shorter period is the faster one, so positive is fast.
+#[tactic(auto, unfolding(crate::specs::Offset::parts_of))]
 fn parts_of(p: Params, period: u32) -> i64
     ensures { result ≡ parts_of p period }
 {
-    let longer = p.period_nominal as i64 - period as i64;
+    let longer = i64::from(p.period_nominal) - i64::from(period);
     arith::divide_nearest(longer * 1_000_000_000, period)
 }

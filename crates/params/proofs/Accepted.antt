@@ -1,11 +1,11 @@
 -- What an accepted sheet has, rule by rule. Judging answers nothing only where every rule is kept, and each kept rule is a fact on the sheet's numbers.
-use Rattle.std.proofs.Common.{◌≡◌, ℕ, ◌*◌, ◌%◌, ◌<◌, ◌≤◌, true, false, ◌&&◌, eqb, ltb, leb, List, [], ◌∷◌, length, ℤ, pos, negsuc, refl, ap, arith, ltb-true, eqb-true, leb-true}
+use Rattle.std.proofs.Common.{◌≡◌, ℕ, ◌*◌, ◌%◌, ◌<◌, ◌≤◌, true, List, [], ◌++◌, length, ℤ, pos, negsuc, refl, ap, arith, eqb-true, leb-true}
 use Rattle.params.specs.declared.Params.{Params}
-use Rattle.params.specs.Refusal.{Refusal, refusal, nothing}
+use Rattle.params.specs.Refusal.{Refusal, nothing, first_of}
 use Rattle.params.specs.Banks.{rows_faults, bank_faults, rows_outside}
 use Rattle.params.specs.Judge.{Sheet, good_taps, good_length, length_faults, good_periods, field_fault, good_delay, field_faults, faults, judged}
-use Rattle.arith.proofs.Both.{and_left, and_right}
-use Rattle.params.proofs.Faults.{kept, none-at, none_left, none_right, first-none, faults-numbered}
+use Rattle.std.proofs.lemmas.Bool.Decides.{nat_tests}
+use Rattle.params.proofs.Faults.{kept, none-at, none_left, none_right, first-none, first-append, faults-numbered, error-numbered}
 
 -- ---- the rules as facts
 
@@ -56,13 +56,7 @@ pub record Accepted (s : Sheet) : Type 0 where
 
 good-taps : (taps : ℕ) → good_taps taps ≡ true → GoodTaps taps
 unfolding good_taps
-good-taps taps e =
-    let r = and_left (leb 4 taps && leb taps 64) (eqb (taps % 2) 0) e in
-    record {
-      least = leb-true 4 taps (and_left (leb 4 taps) (leb taps 64) r);
-      most = leb-true taps 64 (and_right (leb 4 taps) (leb taps 64) r);
-      even = eqb-true (taps % 2) 0 (and_right (leb 4 taps && leb taps 64) (eqb (taps % 2) 0) e);
-    }
+good-taps taps e = record { least = grind (arith, nat_tests); most = grind (arith, nat_tests); even = grind (arith, nat_tests) }
 
 long : (taps : ℕ) (bank : List ℤ) → good_length taps bank ≡ true → length bank ≡ 64 * taps
 unfolding good_length
@@ -70,35 +64,28 @@ long taps bank e = eqb-true (length bank) (64 * taps) e
 
 good-periods : (p : Params) → good_periods p ≡ true → GoodPeriods p
 unfolding good_periods
-good-periods p e =
-    let a = ltb 16777216 p.period_min in
-    let b = leb p.period_min p.period_nominal in
-    let c = leb p.period_nominal p.period_max in
-    let d = ltb p.period_max 67108864 in
-    let abc = and_left (a && b && c) d e in
-    let ab = and_left (a && b) c abc in
-    record {
-      above = ltb-true 16777216 p.period_min (and_left a b ab);
-      low = leb-true p.period_min p.period_nominal (and_right a b ab);
-      high = leb-true p.period_nominal p.period_max (and_right (a && b) c abc);
-      below = ltb-true p.period_max 67108864 (and_right (a && b && c) d e);
-    }
+good-periods p e = record {
+  above = grind (arith, nat_tests);
+  low = grind (arith, nat_tests);
+  high = grind (arith, nat_tests);
+  below = grind (arith, nat_tests);
+}
 
 -- a field's fault is none: its value is within its bounds
 field-least : (place v lo hi : ℕ) → field_fault place (pos v) lo hi ≡ [] → lo ≤ v
-field-least place v lo hi e = leb-true lo v (and_left (leb lo v) (leb v hi) (kept (leb lo v && leb v hi) (refusal 7 (pos place ∷ [])) e))
+field-least place v lo hi e = grind (arith, nat_tests)
 
 field-most : (place v lo hi : ℕ) → field_fault place (pos v) lo hi ≡ [] → v ≤ hi
-field-most place v lo hi e = leb-true v hi (and_right (leb lo v) (leb v hi) (kept (leb lo v && leb v hi) (refusal 7 (pos place ∷ [])) e))
+field-most place v lo hi e = grind (arith, nat_tests)
 
 field-whole : (place : ℕ) (z : ℤ) (hi : ℕ) → field_fault place z 0 hi ≡ [] → (n : ℕ) × (z ≡ pos n) × (n ≤ hi)
 field-whole place (pos n) hi e = (n, refl, field-most place n 0 hi e)
-field-whole place (negsuc n) hi e = let z : ◌≡◌ {A = ℕ} 0 1 = cc (kept false (refusal 7 (pos place ∷ [])) e) in absurd (omega arith)
+field-whole place (negsuc n) hi e = cc
 
 -- the delay's rule is kept
 delay-within : (delay : ℕ) → good_delay delay ≡ true → (1 ≤ delay) × (delay ≤ 24)
 unfolding good_delay
-delay-within delay e = (leb-true 1 delay (and_left (leb 1 delay) (leb delay 24) e), leb-true delay 24 (and_right (leb 1 delay) (leb delay 24) e))
+delay-within delay e = (grind (arith, nat_tests), grind (arith, nat_tests))
 
 -- ---- the three parts of judging
 
@@ -160,3 +147,11 @@ no-faults s e =
 pub judged-none : (s : Sheet) → judged s ≡ nothing → faults s ≡ []
 unfolding judged
 judged-none s e = first-none (faults s) (faults-numbered s) (ap (λ (r : Refusal). r.number) e)
+
+-- faults that are looked for after a sheet's own: the first of all is the sheet's, where it has one
+pub judged-first : (s : Sheet) (rest : List Refusal) → 0 < (judged s).number → first_of (faults s ++ rest) ≡ judged s
+unfolding judged
+judged-first s rest h = first-append (faults s) rest h
+
+-- what is told of a sheet, and then of more
+pub ruleset judging = (judged-none, judged-first, error-numbered)

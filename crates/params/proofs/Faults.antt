@@ -1,14 +1,12 @@
 -- Lists of faults. Every fault has a number other than 0, so an answer of nothing says that there is no fault at all,
 -- and of faults that are looked for one after the other none then has any.
-use Rattle.std.proofs.Common.{◌≡◌, ℕ, zero, suc, ◌<◌, Bool, true, false, List, [], ◌∷◌, ◌++◌, get_or, ℤ, sym, refl, ap, ◌∙◌, subst, arith, lit<}
-use mathlib.Core.List.{flatten, append-eq-nil_iff, nil≢cons}
+use Rattle.std.proofs.Common.{◌≡◌, ℕ, zero, suc, ◌<◌, Bool, true, false, List, [], ◌∷◌, ◌++◌, get_or, ℤ, refl, ap, arith, lit<}
+use mathlib.Core.List.{flatten, append-eq-nil_iff}
 use Rattle.params.specs.declared.Params.{Params}
 use Rattle.params.specs.declared.ParamError.{ParamError}
 use Rattle.params.specs.declared.ParamError.TheVariants.{Taps, BankLength, Coefficient, CoefficientSum, DetectorTaps}
 use Rattle.params.specs.declared.ParamError.TheVariants.{PeriodBounds, Range, AgcShift, Delay}
-use Rattle.params.specs.declared.Verdict.{Verdict}
-use Rattle.params.specs.declared.Verdict.TheVariants.{Refused}
-use Rattle.params.specs.Refusal.{Refusal, nothing, error_refusal, verdict_refusal, unless, first_of}
+use Rattle.params.specs.Refusal.{Refusal, nothing, error_refusal, unless, first_of}
 use Rattle.params.specs.Banks.{coefficient_faults, row_faults, rows_faults, bank_faults}
 use Rattle.params.specs.Judge.{Sheet, length_faults, field_faults, faults}
 
@@ -35,10 +33,7 @@ none_first rs e = ap first_of e
 -- a rule that is not broken is kept
 pub kept : (b : Bool) (r : Refusal) → unless b r ≡ [] → b ≡ true
 kept true r e = refl
-kept false r e = absurd (cons-nil e)
-  where
-    cons-nil : r ∷ [] ≡ [] → ⊥
-    cons-nil p = nil≢cons (sym p)
+kept false r e = cc
 
 -- of two lists, one after the other
 pub none_left : (a b : List Refusal) → a ++ b ≡ [] → a ≡ []
@@ -54,38 +49,25 @@ none-at [] e k = refl
 none-at (l ∷ ls) e zero = none_left l (flatten ls) e
 none-at (l ∷ ls) e (suc k) = none-at ls (none_right l (flatten ls) e) k
 
--- ---- an answer that was found by looking at one kind after the other
+-- ---- kinds of faults that are looked for one after the other
 
+-- the first fault of a kind that has one is the first of all
 pub first-append : (a b : List Refusal) → 0 < (first_of a).number → first_of (a ++ b) ≡ first_of a
 first-append [] b h = absurd (omega arith)
 first-append (r ∷ a) b h = refl
 
-pub record First (ls : List (List Refusal)) (r : Refusal) : Type 0 where
-  pub is : r ≡ first_of (flatten ls)
-
--- there is none of the first kind, so it is the first of the others
-pub skip : {r : Refusal} {l : List Refusal} {ls : List (List Refusal)} → l ≡ [] → First ls r → First (l ∷ ls) r
+-- a list of kinds, one step at a time
+pub first-kind : (l : List Refusal) (ls : List (List Refusal)) → flatten (l ∷ ls) ≡ l ++ flatten ls
 unfolding flatten
-skip e f = record { is = rw e f.is }
+first-kind l ls = refl
 
--- it is the first of the first kind
-pub stop : {r : Refusal} {l : List Refusal} {ls : List (List Refusal)} → 0 < r.number → r ≡ first_of l → First (l ∷ ls) r
+pub no-kind : flatten {A = Refusal} [] ≡ []
 unfolding flatten
-stop {r} {l} {ls} h e = record { is = e ∙ sym (first-append l (flatten ls) (subst (λ (q : Refusal). 0 < q.number) e h)) }
+no-kind = refl
 
--- there is none of any kind
-pub none : First [] nothing
-unfolding flatten
-none = record { is = refl }
+pub ruleset one_by_one = (first-kind, no-kind)
 
--- one rule, kept or broken
-pub keeps : {b : Bool} (r : Refusal) {q : Refusal} {ls : List (List Refusal)} → b ≡ true → First ls q → First (unless b r ∷ ls) q
-keeps {b} r e f = skip (ap (λ (x : Bool). unless x r) e) f
-
-pub breaks : {b : Bool} {r : Refusal} {ls : List (List Refusal)} → 0 < r.number → b ≡ false → First (unless b r ∷ ls) r
-breaks {b} {r} h e = stop h (sym (ap (λ (x : Bool). first_of (unless x r)) e))
-
--- a verdict's number is not 0 where it refuses
+-- an error's number is not 0
 pub error-numbered : (e : ParamError) → 0 < (error_refusal e).number
 error-numbered Taps = lit< tt
 error-numbered BankLength = lit< tt
@@ -96,10 +78,6 @@ error-numbered PeriodBounds = lit< tt
 error-numbered (Range f) = lit< tt
 error-numbered AgcShift = lit< tt
 error-numbered Delay = lit< tt
-
--- what a verdict that refuses told of a list of faults, its error tells
-pub refused : {v : Verdict} {r : Refusal} {e : ParamError} → verdict_refusal v ≡ r → v ≡ Refused e → error_refusal e ≡ r
-refused told is = sym (ap verdict_refusal is) ∙ told
 
 -- ---- the faults of judging
 
@@ -115,8 +93,7 @@ row-numbered bank r row = search (numbered-append, numbered-unless, coefficients
 pub rows-numbered : (taps bank : ℕ) (cs : List ℤ) (r n : ℕ) → Numbered (rows_faults taps bank cs r n)
 unfolding rows_faults
 rows-numbered taps bank cs r zero = tt
-rows-numbered taps bank cs r (suc n) = let rest =
-    rows-numbered taps bank cs (suc r) n in search (numbered-append, numbered-unless, coefficients-numbered, row-numbered, lit<)
+rows-numbered taps bank cs r (suc n) = let rest = rows-numbered taps bank cs (suc r) n in search (numbered-append, row-numbered)
 
 pub lengths-numbered : (taps : ℕ) (h g k : List ℤ) → Numbered (length_faults taps h g k)
 unfolding length_faults flatten
@@ -133,3 +110,18 @@ fields-numbered p = search (numbered-append, numbered-unless, lit<) depth 30
 pub faults-numbered : (s : Sheet) → Numbered (faults s)
 unfolding faults
 faults-numbered s = search (numbered-append, lengths-numbered, banks-numbered, fields-numbered)
+
+-- ---- what is told of a kind
+
+-- where nothing is told of a kind, it has no fault
+pub rows-none : (taps bank : ℕ) (cs : List ℤ) → first_of (rows_faults taps bank cs 0 64) ≡ nothing → rows_faults taps bank cs 0 64 ≡ []
+rows-none taps bank cs e = first-none _ (rows-numbered taps bank cs 0 64) (ap (λ (r : Refusal). r.number) e)
+
+pub lengths-none : (taps : ℕ) (h g k : List ℤ) → first_of (length_faults taps h g k) ≡ nothing → length_faults taps h g k ≡ []
+lengths-none taps h g k e = first-none _ (lengths-numbered taps h g k) (ap (λ (r : Refusal). r.number) e)
+
+pub banks-none : (taps : ℕ) (h g k : List ℤ) → first_of (bank_faults taps h g k) ≡ nothing → bank_faults taps h g k ≡ []
+banks-none taps h g k e = first-none _ (banks-numbered taps h g k) (ap (λ (r : Refusal). r.number) e)
+
+-- kinds of which each was answered for
+pub ruleset kinds = (first-kind, no-kind, first-append, error-numbered, rows-none, lengths-none, banks-none)

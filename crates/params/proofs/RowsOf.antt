@@ -1,9 +1,10 @@
 -- Banks, row after row: what holds of the rows passed goes on with the next one, and the first row with a fault has the bank's first.
-use Rattle.std.proofs.Common.{◌≡◌, ℕ, zero, suc, ◌+◌, ◌-◌, ◌*◌, ◌<◌, ◌≤◌, Bool, true, false, ◌&&◌, leb, List, [], ◌++◌, length, take, drop, ℤ, sym, refl, ap, ◌∙◌, append_assoc, mul-le-mul_right, suc-mul, arith, length-drop, length-take-le, leb-true}
+use Rattle.std.proofs.Common.{◌≡◌, ℕ, zero, suc, ◌+◌, ◌-◌, ◌*◌, ◌<◌, ◌≤◌, true, ◌&&◌, leb, List, [], ◌++◌, length, take, drop, ℤ, ap, ◌∙◌, append_assoc, mul-le-mul_right, suc-mul, arith, length-drop, length-take-le, leb-true}
 use Rattle.params.specs.Refusal.{first_of}
 use Rattle.params.specs.Banks.{row_of, coefficient_faults, magnitudes, row_faults, rows_faults, zero_outside, rows_outside}
-use Rattle.params.proofs.Faults.{kept, none_left, none_right, first-append}
-use Rattle.params.proofs.Rows.{and_assoc, and_left, and_right}
+use Rattle.params.proofs.Faults.{kept, none_left, none_right, first-append, error-numbered}
+use Rattle.arith.proofs.Both.{and_left, and_right}
+use Rattle.params.proofs.Rows.{light-row}
 
 -- ---- the rows of a bank
 
@@ -21,20 +22,13 @@ module _ (taps : ℕ) (cs : List ℤ) where
   unfolding row_of
   row-part at r e = let l : at + taps - at ≡ taps = omega arith in rw (l, e)
 
-  pub row_next : (at r : ℕ) → at ≡ r * taps → at + taps ≡ (r + 1) * taps
-  row_next at r e = let s : (r + 1) * taps ≡ r * taps + taps = ap (λ (n : ℕ). n * taps) (omega arith) ∙ suc-mul r taps in omega arith
-
   rows_split : (bank r n m : ℕ) → rows_faults taps bank cs r (n + m) ≡ rows_faults taps bank cs r n ++ rows_faults taps bank cs (r + n) m
   unfolding rows_faults
-  rows_split bank r zero m =
-      let a : zero + m ≡ m = omega arith in
-      let b : r + zero ≡ r = omega arith in
-      rw (a, b)
+  rows_split bank r zero m = grind arith
   rows_split bank r (suc n) m =
       let a : suc n + m ≡ suc (n + m) = omega arith in
       let b : r + suc n ≡ suc r + n = omega arith in
-      rw (a, b, rows_split bank (suc r) n m)
-      (sym (append_assoc (row_faults bank r (row_of taps cs r)) (rows_faults taps bank cs (suc r) n) (rows_faults taps bank cs (suc r + n) m)))
+      rw (a, b, rows_split bank (suc r) n m, append_assoc)
 
   -- one row more without a fault
   pub rows-suc : (bank n : ℕ) → rows_faults taps bank cs 0 n ≡ [] → row_faults bank n (row_of taps cs n) ≡ [] → rows_faults taps bank cs 0 (n + 1) ≡ []
@@ -57,18 +51,8 @@ module _ (taps : ℕ) (cs : List ℤ) where
   -- the rows that are zero outside the detector's places
   outside-split : (r n : ℕ) → rows_outside taps cs r (n + 1) ≡ (rows_outside taps cs r n && zero_outside taps 0 (row_of taps cs (r + n)))
   unfolding rows_outside
-  outside-split r zero =
-      let b : r + zero ≡ r = omega arith in
-      rw b (and-true (zero_outside taps 0 (row_of taps cs r)))
-    where
-      and-true : (x : Bool) → (x && true) ≡ x
-      and-true true = refl
-      and-true false = refl
-  outside-split r (suc n) =
-      let a : suc n + 1 ≡ suc (n + 1) = omega arith in
-      let b : r + suc n ≡ suc r + n = omega arith in
-      rw (a, b, outside-split (suc r) n)
-      (and_assoc (zero_outside taps 0 (row_of taps cs r)) (rows_outside taps cs (suc r) n) (zero_outside taps 0 (row_of taps cs (suc r + n))))
+  outside-split r zero = grind arith
+  outside-split r (suc n) = grind (arith, outside-split (suc r) n)
 
   pub outside-suc : (n : ℕ) → rows_outside taps cs 0 (n + 1) ≡ (rows_outside taps cs 0 n && zero_outside taps 0 (row_of taps cs n))
   outside-suc n = let z : 0 + n ≡ n = omega arith in outside-split 0 n ∙ rw z
@@ -100,3 +84,6 @@ module _ (taps : ℕ) (cs : List ℤ) where
 
   pub row-centred : (n : ℕ) → n < 64 → rows_outside taps cs 0 64 ≡ true → zero_outside taps 0 (row_of taps cs n) ≡ true
   row-centred n h e = let z : 0 + n ≡ n = omega arith in rw z at (row_zero 0 64 n h e)
+
+-- one row after the other
+pub ruleset rows = (rows-suc, rows-first, outside-suc, light-row, error-numbered)

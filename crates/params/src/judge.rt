@@ -1,131 +1,98 @@
 // Judging a sheet with its banks: 1 to 8 and 29, in this order (RULES 1.4).
-ghost use Rattle.std.specs.Prelude.{◌≡◌, ◌&&◌, pos, nat_le};
+ghost use Rattle.std.specs.Prelude.{◌≡◌, pos};
+ghost use Rattle.params.specs.Refusal.{error_refusal, answer_refusal, faults_of, unless, first_of};
+ghost use Rattle.params.specs.Judge.{good_taps, length_faults, good_periods, good_delay, field_faults, judged};
 ghost use Rattle.arith.specs.Arith.{within};
-ghost use Rattle.params.specs.Refusal.{verdict_refusal, first_of};
-ghost use Rattle.params.specs.Judge.{sheet_of, good_taps, length_faults, good_periods, field_faults, judged};
+ghost use Rattle.params.specs.declared.ParamError.{ParamError};
+ghost use Rattle.params.specs.declared.Field.{Field};
 
-use crate::{ParamError, Params, Verdict, banks};
+use crate::refusal::require;
+use crate::{Field, ParamError, Params, Sheet};
 
 // Even, and from 4 to 64. What refuses a sheet by 1 refuses a design by 15, and text before its banks are read.
+#[tactic(auto, unfolding(crate::specs::Judge::good_taps))]
 pub fn is_good_taps(taps: u32) -> bool
     ensures { result ≡ good_taps taps }
 {
-    if taps < 4 {
-        return false;
-    }
-    if 64 < taps {
-        return false;
-    }
-    taps % 2 == 0
+    (4..=64).contains(&taps) && taps % 2 == 0
 }
 
-// 1 and 2: the taps, then the lengths of h, g and k.
-fn check_lengths(taps: u32, h: &[i32], g: &[i32], k: &[i32]) -> Verdict
-    ensures { verdict_refusal result ≡ first_of (length_faults taps h.now g.now k.now) }
-{
-    if !is_good_taps(taps) {
-        return Verdict::Refused(ParamError::Taps);
+impl Sheet<'_> {
+    // Checks all that the arithmetic of the path relies on (RULES 1.4).
+    #[tactic(auto, using(crate::proofs::Faults::kinds), unfolding(crate::specs::Judge::judged, crate::specs::Judge::faults))]
+    pub fn validate(&self) -> Result<(), ParamError>
+        ensures { answer_refusal error_refusal result ≡ judged self.now }
+    {
+        self.check_lengths()?;
+        self.check_banks()?;
+        self.params.check_fields()
     }
-    let long = 64 * (taps as usize);
-    if h.len() != long {
-        return Verdict::Refused(ParamError::BankLength);
+
+    // 1 and 2: the taps, then the lengths of h, g and k.
+    #[tactic(auto, using(crate::proofs::Faults::one_by_one), unfolding(crate::specs::Judge::length_faults, crate::specs::Judge::good_length))]
+    fn check_lengths(&self) -> Result<(), ParamError>
+        ensures { answer_refusal error_refusal result ≡ first_of (length_faults self.now.params.taps self.now.h self.now.g self.now.k) }
+    {
+        require(is_good_taps(self.params.taps), ParamError::Taps)?;
+        let long = 64 * (self.params.taps as usize);
+        require(self.h.len() == long, ParamError::BankLength)?;
+        require(self.g.len() == long, ParamError::BankLength)?;
+        require(self.k.len() == long, ParamError::BankLength)
     }
-    if g.len() != long {
-        return Verdict::Refused(ParamError::BankLength);
-    }
-    if k.len() != long {
-        return Verdict::Refused(ParamError::BankLength);
-    }
-    Verdict::Accepted
 }
 
-// Whether v lies from lo to hi, both among them.
-pub fn is_within(v: u32, lo: u32, hi: u32) -> bool
-    ensures { result ≡ (nat_le lo v && nat_le v hi) }
+// 7 where a field is not from lo to hi.
+fn check_range(field: Field, v: u32, lo: u32, hi: u32) -> Result<(), ParamError>
+    ensures { faults_of error_refusal result ≡ unless (within (pos lo) (pos hi) (pos v)) (error_refusal (ParamError.Range field)) }
 {
-    if v < lo {
-        return false;
-    }
-    v <= hi
-}
-
-fn is_integrator_end(v: i32) -> bool
-    ensures { result ≡ within (pos 0) (pos 4194303) v }
-{
-    if v < 0 {
-        return false;
-    }
-    v <= 4194303
+    require((lo..=hi).contains(&v), ParamError::Range { field })
 }
 
 impl Params {
-    // Checks all that the arithmetic of the path relies on (RULES 1.4).
-    pub fn validate(self, h: &[i32], g: &[i32], k: &[i32]) -> Verdict
-        ensures { verdict_refusal result ≡ judged (sheet_of self h.now g.now k.now) }
+    #[tactic(auto, unfolding(crate::specs::Judge::good_periods))]
+    fn check_periods(self) -> Result<(), ParamError>
+        ensures { faults_of error_refusal result ≡ unless (good_periods self) (error_refusal ParamError.PeriodBounds) }
     {
-        let lengths = check_lengths(self.taps, h, g, k);
-        if let Verdict::Refused(e) = lengths {
-            return Verdict::Refused(e);
-        }
-        let in_banks = banks::check_banks(h, g, k, self.taps as usize);
-        if let Verdict::Refused(e) = in_banks {
-            return Verdict::Refused(e);
-        }
-        self.check_fields()
+        let good = 0x100_0000 < self.period_min
+            && self.period_min <= self.period_nominal
+            && self.period_nominal <= self.period_max
+            && self.period_max < 0x400_0000;
+        require(good, ParamError::PeriodBounds)
     }
 
-    fn has_good_periods(self) -> bool
-        ensures { result ≡ good_periods self }
+    fn check_integrator(self) -> Result<(), ParamError>
+        ensures { faults_of error_refusal result ≡ unless (within (pos 0) (pos 4194303) self.integrator_max) (error_refusal (ParamError.Range Field.IntegratorMax)) }
     {
-        if self.period_min <= 0x100_0000 {
-            return false;
-        }
-        if self.period_nominal < self.period_min {
-            return false;
-        }
-        if self.period_max < self.period_nominal {
-            return false;
-        }
-        self.period_max < 0x400_0000
+        require(
+            (0..=4194303).contains(&self.integrator_max),
+            ParamError::Range {
+                field: Field::IntegratorMax,
+            },
+        )
+    }
+
+    #[tactic(auto, unfolding(crate::specs::Judge::good_delay))]
+    fn check_delay(self) -> Result<(), ParamError>
+        ensures { faults_of error_refusal result ≡ unless (good_delay self.delay) (error_refusal ParamError.Delay) }
+    {
+        require((1..=24).contains(&self.delay), ParamError::Delay)
     }
 
     // 6, then 7 field by field, then 8, then 29.
-    fn check_fields(self) -> Verdict
-        ensures { verdict_refusal result ≡ first_of (field_faults self) }
+    #[tactic(auto, using(crate::proofs::Faults::one_by_one), unfolding(crate::specs::Judge::field_faults))]
+    fn check_fields(self) -> Result<(), ParamError>
+        ensures { answer_refusal error_refusal result ≡ first_of (field_faults self) }
     {
-        if !self.has_good_periods() {
-            return Verdict::Refused(ParamError::PeriodBounds);
-        }
-        if !is_within(self.bits as u32, 2, 8) {
-            return Verdict::Refused(ParamError::Range { field: 0 });
-        }
-        if !is_within(self.q_shift as u32, 0, 15) {
-            return Verdict::Refused(ParamError::Range { field: 1 });
-        }
-        if !is_within(self.block_log2 as u32, 8, 15) {
-            return Verdict::Refused(ParamError::Range { field: 2 });
-        }
-        if !is_within(self.agc_init, 0, 0xff_ffff) {
-            return Verdict::Refused(ParamError::Range { field: 3 });
-        }
-        if !is_integrator_end(self.integrator_max) {
-            return Verdict::Refused(ParamError::Range { field: 4 });
-        }
-        if !is_within(self.ted_shift as u32, 0, 30) {
-            return Verdict::Refused(ParamError::Range { field: 5 });
-        }
-        if !is_within(self.kp_shift as u32, 0, 40) {
-            return Verdict::Refused(ParamError::Range { field: 6 });
-        }
-        if !is_within(self.ki_shift as u32, 0, 40) {
-            return Verdict::Refused(ParamError::Range { field: 7 });
-        }
-        if !is_within(self.agc_shift as u32, 0, 63) {
-            return Verdict::Refused(ParamError::AgcShift);
-        }
-        if !is_within(self.delay as u32, 1, 24) {
-            return Verdict::Refused(ParamError::Delay);
-        }
-        Verdict::Accepted
+        self.check_periods()?;
+        check_range(Field::Bits, u32::from(self.bits), 2, 8)?;
+        check_range(Field::QShift, u32::from(self.q_shift), 0, 15)?;
+        check_range(Field::BlockLog2, u32::from(self.block_log2), 8, 15)?;
+        check_range(Field::AgcInit, self.agc_init, 0, 0xff_ffff)?;
+        self.check_integrator()?;
+        check_range(Field::TedShift, u32::from(self.ted_shift), 0, 30)?;
+        check_range(Field::KpShift, u32::from(self.kp_shift), 0, 40)?;
+        check_range(Field::KiShift, u32::from(self.ki_shift), 0, 40)?;
+        require(self.agc_shift <= 63, ParamError::AgcShift)?;
+        self.check_delay()
     }
 }

@@ -1,15 +1,17 @@
 // The sheet: the parameters of the front end, how they are judged, and why they are refused.
 #![tactic(auto)]
 
+use std::marker::Model;
+
 mod banks;
 mod judge;
 mod refusal;
 
 pub use banks::detector_of;
-pub use judge::{is_good_taps, is_within};
+pub use judge::is_good_taps;
 
-// The run-time parameters (RULES 1.1). The banks h, g and k are lent beside it, each 64 rows of `taps` numbers, row by row.
-#[derive(Clone, Copy)]
+// The run-time parameters (RULES 1.1).
+#[derive(Clone, Copy, PartialEq, Eq, Default, Debug)]
 pub struct Params {
     // Taps of a row: even, 4 to 64.
     pub taps: u32,
@@ -41,30 +43,66 @@ pub struct Params {
     pub delay: u8,
 }
 
-// Why a sheet is refused (RULES 1.4). A bank is 0 for h, 1 for g and 2 for k; a phase is a row of it.
-#[derive(Clone, Copy)]
+// A sheet: the parameters with the banks h, g and k that are lent beside them, each 64 rows of `taps` numbers, row by row.
+#[derive(Drop)]
+pub struct Sheet<'a> {
+    pub params: Params,
+    pub h: &'a [i32],
+    pub g: &'a [i32],
+    pub k: &'a [i32],
+}
+
+impl<'a> Model for Sheet<'a> {
+    ghost use Rattle.params.specs.Judge.{Sheet, sheet_of};
+
+    ghost Value = { Sheet };
+
+    ghost view = { λ s. sheet_of s.params s.h.now s.g.now s.k.now };
+}
+
+// The three banks of a sheet: the timing detector's, the loop's, and the output's.
+#[derive(Clone, Copy, PartialEq, Eq, Debug)]
+pub enum Bank {
+    H,
+    G,
+    K,
+}
+
+// The fields that are refused by 7, in the order in which they are looked at.
+#[derive(Clone, Copy, PartialEq, Eq, Debug)]
+pub enum Field {
+    Bits,
+    QShift,
+    BlockLog2,
+    AgcInit,
+    IntegratorMax,
+    TedShift,
+    KpShift,
+    KiShift,
+}
+
+// Why a sheet is refused (RULES 1.4). A phase is a row of a bank.
+#[derive(Clone, Copy, PartialEq, Eq, Debug)]
 pub enum ParamError {
     Taps,
     BankLength,
-    Coefficient { bank: u8, phase: usize, value: i32 },
-    CoefficientSum { bank: u8, phase: usize, sum: u64 },
-    DetectorTaps { bank: u8 },
+    Coefficient {
+        bank: Bank,
+        phase: usize,
+        value: i32,
+    },
+    CoefficientSum {
+        bank: Bank,
+        phase: usize,
+        sum: u64,
+    },
+    DetectorTaps {
+        bank: Bank,
+    },
     PeriodBounds,
-    Range { field: u8 },
+    Range {
+        field: Field,
+    },
     AgcShift,
     Delay,
-}
-
-// What judging a sheet answers.
-#[derive(Clone, Copy)]
-pub enum Verdict {
-    Accepted,
-    Refused(ParamError),
-}
-
-// Where the timing detector's places of a row begin and end: the eight in the middle, or all of a row that has fewer.
-#[derive(Clone, Copy)]
-pub struct Detector {
-    pub low: usize,
-    pub high: usize,
 }

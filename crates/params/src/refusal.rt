@@ -2,9 +2,9 @@
 //
 // Text and C have no enums: there a refusal is its number alone, and 0 is that of nothing refused. What else it carries does not cross.
 ghost use Rattle.std.specs.Prelude.{◌≡◌};
-ghost use Rattle.params.specs.Refusal.{error_refusal, verdict_refusal};
+ghost use Rattle.params.specs.Refusal.{error_refusal, faults_of, unless};
 
-use crate::{ParamError, Verdict};
+use crate::ParamError;
 
 impl ParamError {
     pub fn number(self) -> u32
@@ -24,13 +24,9 @@ impl ParamError {
     }
 }
 
-impl Verdict {
-    pub fn number(self) -> u32
-        ensures { result ≡ (verdict_refusal self).number }
-    {
-        match self {
-            Verdict::Accepted => 0,
-            Verdict::Refused(e) => e.number(),
-        }
-    }
+// An error where a rule is broken.
+pub(crate) fn require(kept: bool, error: ParamError) -> Result<(), ParamError>
+    ensures { faults_of error_refusal result ≡ unless kept (error_refusal error) }
+{
+    if kept { Ok(()) } else { Err(error) }
 }

@@ -1,5 +1,5 @@
 -- States cross unchanged. A place without its sign is the place where it has none, the held sheet crosses as a sheet does (Sheets), and taking pairs apart and
--- putting them together undo each other (Pairs).
+-- putting them together undo each other (InPairs).
 use Prim.Native.Nat.{ℕ, suc, ◌*◌, ◌%◌, ◌<◌}
 use mathlib.Core.Path.{◌≡◌, refl}
 use mathlib.Core.Bool.{true}
@@ -12,15 +12,16 @@ use borrow.Author.Tests.{eq-eqb}
 use Rattle.state.specs.declared.Pair.{Pair}
 use Rattle.registers.specs.declared.Pending.{Pending}
 use Rattle.state.specs.declared.Frontend.{Frontend}
+use Rattle.kinds.specs.declared.Kind.TheVariants.{U8}
 use Rattle.kinds.specs.Kinds.{at, is_kind, are_kinds}
 use Rattle.places.specs.Sheet.{sheet_kinds, sheet_numbers}
-use Rattle.places.specs.States.{Slices, line_of, pending_of, line_numbers, pending_numbers, first_kinds, state_fits, registers_at, state_of, numbers_of}
+use Rattle.places.specs.States.{Slices, line_of, pending_of, line_numbers, pending_numbers, first_kinds, state_fits, AreState, registers_at, state_of, numbers_of}
 use Rattle.places.specs.Crossing.{Whole, Typed, StatesCross}
 use Rattle.arith.proofs.Both.{and_both}
 use Rattle.kinds.proofs.OfKind.{own-u32, own-count, front}
 use Rattle.kinds.proofs.Readable.{readable}
-use Rattle.places.proofs.Readable.{ReadableState, readable-state, first_fits, first-at, sheet-fits}
-use Rattle.places.proofs.Pairs.{flat-long, in-flat, flat_in}
+use Rattle.places.proofs.Readable.{are_state, first_at}
+use Rattle.places.proofs.InPairs.{flat-long, in-flat, flat_in}
 use Rattle.places.proofs.Sheets.{sheets-cross}
 
 -- ---- the pairs
@@ -74,15 +75,15 @@ fit f w t =
 -- ---- read and written
 
 module _ (l : Slices) (fits : state_fits l ≡ true) where
-  r : ReadableState l
-  r = readable-state l fits
+  r : AreState l
+  r = are_state l fits
 
   -- a place in front of those behind it
   place : (n : ℕ) → n < 10 → {z : ℤ} {rest : List ℤ} → z ≡ at l.places n → rest ≡ drop (suc n) l.places → z ∷ rest ≡ drop n l.places
-  place n h e k = front l.places n (omega (arith, r.long)) e k
+  place n h e k = front l.places n (omega (arith, r.places)) e k
 
-  kind : (n : ℕ) → n < 10 → is_kind (get_or first_kinds n 0) (at l.places n) ≡ true
-  kind n h = (first-at l.places (first_fits r) n h).is
+  kind : (n : ℕ) → n < 10 → is_kind (get_or first_kinds n U8) (at l.places n) ≡ true
+  kind n h = (first_at l.places r.first n h).is
 
   places-again : (numbers_of (state_of l)).places ≡ l.places
   unfolding state_of numbers_of registers_at
@@ -96,14 +97,14 @@ module _ (l : Slices) (fits : state_fits l ≡ true) where
       (place 6 (lit< tt) (own-count (at l.places 6) (kind 6 (lit< tt)))
       (place 7 (lit< tt) (own-count (at l.places 7) (kind 7 (lit< tt)))
       (place 8 (lit< tt) (own-count (at l.places 8) (kind 8 (lit< tt)))
-      (place 9 (lit< tt) (own-count (at l.places 9) (kind 9 (lit< tt))) (sheets-cross.again (drop 10 l.places) (sheet-fits r)))))))))))
+      (place 9 (lit< tt) (own-count (at l.places 9) (kind 9 (lit< tt))) (sheets-cross.again (drop 10 l.places) r.sheet))))))))))
 
   again : numbers_of (state_of l) ≡ l
   unfolding state_of numbers_of
   again = λ i. record {
     places = places-again i;
-    line = line-again l.line (omega (arith, r.long-line)) i;
-    errors = pending-again l.errors (omega (arith, r.long-errors)) i;
+    line = line-again l.line (omega (arith, r.line)) i;
+    errors = pending-again l.errors (omega (arith, r.errors)) i;
   }
 
 pub states-cross : StatesCross

@@ -1,8 +1,6 @@
 -- Laws of sheets, states and designs as places.
 pub mod Readable
-pub mod Read
-pub mod Placed
-pub mod Pairs
-pub mod Widths
+pub mod InPairs
 pub mod Crossing
 pub mod Sheets
+pub mod Placed

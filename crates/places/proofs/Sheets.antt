@@ -9,12 +9,13 @@ use lib.ListN.{length, get_or, drop, drop_of_length-le}
 use lib.IntN.{ℤ}
 use Rattle.arith.proofs.Both.{and_both}
 use Rattle.params.specs.declared.Params.{Params}
-use Rattle.kinds.specs.Kinds.{at, is_kind, are_kinds, places_number}
+use Rattle.kinds.specs.declared.Kind.TheVariants.{U8}
+use Rattle.kinds.specs.Kinds.{at, is_kind, are_kinds}
 use Rattle.kinds.proofs.OfKind.{own-u8, own-u32, front}
 use Rattle.kinds.proofs.Readable.{readable}
 use Rattle.places.specs.Sheet.{sheet_kinds, sheet_number, params_at, sheet_numbers}
 use Rattle.places.specs.Crossing.{TypedSheet, SheetsCross}
-use Rattle.places.proofs.Readable.{sheet-at}
+use Rattle.places.proofs.Readable.{sheet_at}
 
 -- ---- written and read
 
@@ -23,7 +24,7 @@ unfolding params_at sheet_numbers
 back p = refl
 
 fit : (p : Params) → TypedSheet p → sheet_number (sheet_numbers p) ≡ 0
-unfolding places_number sheet_numbers are_kinds
+unfolding sheet_numbers are_kinds
 fit p t =
     let each : are_kinds sheet_kinds (sheet_numbers p) ≡ true =
     and_both t.taps (and_both t.nco_step
@@ -42,8 +43,8 @@ module _ (l : List ℤ) (e : sheet_number l ≡ 0) where
   place : (n : ℕ) → n < 18 → {z : ℤ} {rest : List ℤ} → z ≡ at l n → rest ≡ drop (suc n) l → z ∷ rest ≡ drop n l
   place n h is behind = front l n (omega (arith, long)) is behind
 
-  kind : (n : ℕ) → n < 18 → is_kind (get_or sheet_kinds n 0) (at l n) ≡ true
-  kind n h = (sheet-at l e n h).is
+  kind : (n : ℕ) → n < 18 → is_kind (get_or sheet_kinds n U8) (at l n) ≡ true
+  kind n h = (sheet_at l e n h).is
 
   none : [] ≡ drop 18 l
   none = sym (drop_of_length-le l {i = 18} (omega (arith, long)))

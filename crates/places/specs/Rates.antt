@@ -4,13 +4,13 @@ use Rattle.std.specs.Prelude.{ℕ, cond, List, [], ◌∷◌, eqb, length, get_o
 use Rattle.std.specs.Float.{nan}
 use Rattle.design.specs.declared.Design.{Design}
 use Rattle.design.specs.declared.Gains.{Gains}
-use Rattle.kinds.specs.Kinds.{at, u8, u32, i16, places_number}
-use Rattle.places.specs.declared.ReadDesign.{ReadDesign}
-use Rattle.places.specs.declared.ReadDesign.TheVariants.{Design as DesignWith, Refused}
+use Rattle.kinds.specs.declared.Kind.{Kind}
+use Rattle.kinds.specs.declared.Kind.TheVariants.{U8, U32, I16}
+use Rattle.kinds.specs.Kinds.{at, places_number}
 
 -- The types of the fields.
-abbrev pub design_kinds : List ℕ
-design_kinds = u32 ∷ u8 ∷ u8 ∷ i16 ∷ u8 ∷ i16 ∷ u8 ∷ u8 ∷ []
+abbrev pub design_kinds : List Kind
+design_kinds = U32 ∷ U8 ∷ U8 ∷ I16 ∷ U8 ∷ I16 ∷ U8 ∷ U8 ∷ []
 
 -- 18 for another number of rates than five or of fields than eight, 19 for a field whose number is not of its type, and 0 for a design that can be read.
 -- Any float is a rate.
@@ -43,8 +43,3 @@ gains_at fields = record {
   ki_shift = nat_abs (at fields 6);
   q_shift = nat_abs (at fields 7);
 }
-
--- What reading a design answers: the design with its gains, or 18 or 19.
-unfoldable pub read_design : List Float → List ℤ → ReadDesign
-read_design rates fields =
-    cond (eqb (design_number rates fields) 0) (DesignWith (design_at rates fields) (gains_at fields)) (Refused (design_number rates fields))

@@ -1,16 +1,16 @@
 -- A sheet as 18 places, its fields in their order (RULES 1.1).
 -- (RULES 8.2)
-use Rattle.std.specs.Prelude.{ℕ, cond, List, [], ◌∷◌, ◌++◌, eqb, leb, length, drop, ℤ, pos, nat_abs}
+use Rattle.std.specs.Prelude.{ℕ, cond, List, [], ◌∷◌, ◌++◌, leb, length, drop, ℤ, pos, nat_abs}
 use Rattle.params.specs.declared.Params.{Params}
-use Rattle.kinds.specs.Kinds.{at, u8, u32, i16, i32, places_number}
-use Rattle.places.specs.declared.ReadSheet.{ReadSheet}
-use Rattle.places.specs.declared.ReadSheet.TheVariants.{Sheet, Refused}
+use Rattle.kinds.specs.declared.Kind.{Kind}
+use Rattle.kinds.specs.declared.Kind.TheVariants.{U8, U32, I16, I32}
+use Rattle.kinds.specs.Kinds.{at, places_number}
 use Rattle.kinds.specs.Answer.{Answer, answered}
 
 -- The types of the fields.
-abbrev pub sheet_kinds : List ℕ
+abbrev pub sheet_kinds : List Kind
 sheet_kinds =
-    u32 ∷ i32 ∷ u32 ∷ u32 ∷ u32 ∷ u8 ∷ i16 ∷ u8 ∷ i16 ∷ u8 ∷ i32 ∷ u32 ∷ u32 ∷ u8 ∷ u8 ∷ u8 ∷ u8 ∷ u8 ∷ []
+    U32 ∷ I32 ∷ U32 ∷ U32 ∷ U32 ∷ U8 ∷ I16 ∷ U8 ∷ I16 ∷ U8 ∷ I32 ∷ U32 ∷ U32 ∷ U8 ∷ U8 ∷ U8 ∷ U8 ∷ U8 ∷ []
 
 -- The refusal's number: 18 where there are not 18 places, 19 for one whose number is not of its field's type, and 0 for a sheet that can be read.
 abbrev pub sheet_number : List ℤ → ℕ
@@ -38,10 +38,6 @@ params_at l = record {
   block_log2 = nat_abs (at l 16);
   delay = nat_abs (at l 17);
 }
-
--- What reading a sheet answers: its fields, or 18 or 19.
-unfoldable pub read_sheet : List ℤ → ReadSheet
-read_sheet l = cond (eqb (sheet_number l) 0) (Sheet (params_at l)) (Refused (sheet_number l))
 
 -- The places of a sheet.
 unfoldable pub sheet_numbers : Params → List ℤ

@@ -1,14 +1,16 @@
 -- A state as three slices: 28 places, which are nco, t, v, period, gain accumulator, symbols, the line's position, the queue's position and count, samples and
 -- the 18 fields of the held sheet; the line's 64 pairs; and the 24 pairs of the ring in which errors wait. Line and ring are as they are stored. (RULES 8.3)
-use Rattle.std.specs.Prelude.{ℕ, Bool, cond, ◌&&◌, List, [], ◌∷◌, ◌++◌, eqb, leb, length, drop, ℤ, pos, nat_abs}
+use Rattle.std.specs.Prelude.{◌≡◌, ℕ, Bool, cond, ◌&&◌, List, [], ◌∷◌, ◌++◌, eqb, leb, length, take, drop, ℤ, pos, nat_abs}
 use Rattle.state.specs.declared.Pair.{Pair}
 use Rattle.registers.specs.declared.Pending.{Pending}
 use Rattle.registers.specs.declared.Registers.{Registers}
 use Rattle.state.specs.declared.Frontend.{Frontend}
 use Rattle.fields.specs.Fields.{no_fields}
 use Rattle.state.specs.Start.{fresh}
-use Rattle.kinds.specs.Kinds.{at, u32, i64, count, are_kinds}
-use Rattle.places.specs.Sheet.{sheet_kinds, params_at, sheet_numbers}
+use Rattle.kinds.specs.declared.Kind.{Kind}
+use Rattle.kinds.specs.declared.Kind.TheVariants.{U32, I64, Count}
+use Rattle.kinds.specs.Kinds.{at, are_kinds, places_number}
+use Rattle.places.specs.Sheet.{sheet_kinds, sheet_number, params_at, sheet_numbers}
 
 -- ---- numbers in pairs
 
@@ -54,16 +56,24 @@ are_long l = eqb (length l.places) 28 && eqb (length l.line) 128 && eqb (length 
 -- ---- from slices
 
 -- The types of the first ten places.
-abbrev pub first_kinds : List ℕ
-first_kinds = u32 ∷ i64 ∷ i64 ∷ u32 ∷ u32 ∷ count ∷ count ∷ count ∷ count ∷ count ∷ []
+abbrev pub first_kinds : List Kind
+first_kinds = U32 ∷ I64 ∷ I64 ∷ U32 ∷ U32 ∷ Count ∷ Count ∷ Count ∷ Count ∷ Count ∷ []
 
 -- The types of all: behind the first ten are the fields of a sheet.
-abbrev pub state_kinds : List ℕ
+abbrev pub state_kinds : List Kind
 state_kinds = first_kinds ++ sheet_kinds
 
 -- The slices are a state: as long as one, and each place has a number of its field's type.
 unfoldable pub state_fits : Slices → Bool
 state_fits l = are_long l && are_kinds state_kinds l.places
+
+-- That, part by part: the three lengths, the first ten places, and behind them those of a sheet that can be read.
+pub record AreState (l : Slices) : Type 0 where
+  pub places : length l.places ≡ 28
+  pub line : length l.line ≡ 128
+  pub errors : length l.errors ≡ 48
+  pub first : places_number first_kinds (take 10 l.places) ≡ 0
+  pub sheet : sheet_number (drop 10 l.places) ≡ 0
 
 -- The registers that places say. The number of an unsigned field is the place's without its sign: of places that fit, the place's own.
 unfoldable pub registers_at : List ℤ → Registers

@@ -1,42 +1,35 @@
 // A design as places: its five rates, and eight fields, of which the last five are the gains that it leaves open. Rates are sample_rate, symbol_rate,
 // carrier_offset, trim and agc_rms; fields are taps, bits, block_log2, kp, kp_shift, ki, ki_shift and q_shift.
-ghost use Rattle.std.specs.Prelude.{◌≡◌};
-ghost use Rattle.kinds.specs.Kinds.{places_number};
-ghost use Rattle.places.specs.Rates.{design_kinds, design_number, design_at, gains_at, read_design};
+ghost use Rattle.std.specs.Prelude.{◌≡◌, length, IfOk};
+ghost use Rattle.kinds.specs.Answer.{answer_number};
+ghost use Rattle.kinds.specs.Kinds.{places_number, field_number};
+ghost use Rattle.places.specs.Rates.{design_kinds, design_number, design_at, gains_at};
 
-use crate::{ReadDesign, numbers};
+use crate::numbers::number_at;
 use design::{Design, Gains};
+use kinds::{FieldError, Kind};
 
 // The types of the fields.
-fn design_kinds() -> [u8; 8]
+fn design_kinds() -> [Kind; 8]
     ensures { result ≡ design_kinds }
 {
     [
-        kinds::U32,
-        kinds::U8,
-        kinds::U8,
-        kinds::I16,
-        kinds::U8,
-        kinds::I16,
-        kinds::U8,
-        kinds::U8,
+        Kind::U32,
+        Kind::U8,
+        Kind::U8,
+        Kind::I16,
+        Kind::U8,
+        Kind::I16,
+        Kind::U8,
+        Kind::U8,
     ]
 }
 
-// 18 for another number of rates or fields, 19 for a number that its field's type has not, and 0 for a design that can be read. No rate is refused here.
-fn fault(rates: &[f64], fields: &[i64]) -> u32
-    ensures { result ≡ design_number rates.now fields.now }
-{
-    if rates.len() != 5 {
-        return 18;
-    }
-    let types = design_kinds();
-    kinds::fault(&types, fields)
-}
-
-// The design that can be read.
+// The design of rates and fields that can be read.
+#[tactic(auto, using(crate::proofs::Readable::fields_at), unfolding(crate::specs::Rates::design_at))]
 fn design_of(rates: &[f64], fields: &[i64]) -> Design
-    requires { design_number rates.now fields.now ≡ 0 }
+    requires long { length rates.now ≡ 5 }
+    requires kinds { places_number design_kinds fields.now ≡ 0 }
     ensures { result ≡ design_at rates.now fields.now }
 {
     Design {
@@ -45,36 +38,36 @@ fn design_of(rates: &[f64], fields: &[i64]) -> Design
         carrier_offset: rates[2],
         trim: rates[3],
         agc_rms: rates[4],
-        taps: numbers::u32_at(fields, 0),
-        bits: numbers::u8_at(fields, 1),
-        block_log2: numbers::u8_at(fields, 2),
+        taps: number_at(fields, 0),
+        bits: number_at(fields, 1),
+        block_log2: number_at(fields, 2),
     }
 }
 
 // The gains beside it.
+#[tactic(auto, using(crate::proofs::Readable::fields_at), unfolding(crate::specs::Rates::gains_at))]
 fn gains_of(fields: &[i64]) -> Gains
     requires { places_number design_kinds fields.now ≡ 0 }
     ensures { result ≡ gains_at fields.now }
 {
     Gains {
-        kp: numbers::i16_at(fields, 3),
-        kp_shift: numbers::u8_at(fields, 4),
-        ki: numbers::i16_at(fields, 5),
-        ki_shift: numbers::u8_at(fields, 6),
-        q_shift: numbers::u8_at(fields, 7),
+        kp: number_at(fields, 3),
+        kp_shift: number_at(fields, 4),
+        ki: number_at(fields, 5),
+        ki_shift: number_at(fields, 6),
+        q_shift: number_at(fields, 7),
     }
 }
 
-// The design of these rates and fields with its gains: 18 for another number of either, 19 for a number that its field's type has not.
-pub fn read_design(rates: &[f64], fields: &[i64]) -> ReadDesign
-    ensures { result ≡ read_design rates.now fields.now }
+// The design of these rates and fields with its gains. Another number of either is malformed; no rate is out of range.
+#[tactic(auto, unfolding(crate::specs::Rates::design_number))]
+pub fn read_design(rates: &[f64], fields: &[i64]) -> Result<(Design, Gains), FieldError>
+    ensures refused { answer_number field_number result ≡ design_number rates.now fields.now }
+    ensures read { IfOk result (λ d. (d.0 ≡ design_at rates.now fields.now) × (d.1 ≡ gains_at fields.now)) }
 {
-    let number = fault(rates, fields);
-    if number != 0 {
-        return ReadDesign::Refused(number);
+    if rates.len() != 5 {
+        return Err(FieldError::Malformed);
     }
-    ReadDesign::Design {
-        design: design_of(rates, fields),
-        gains: gains_of(fields),
-    }
+    kinds::check(&design_kinds(), fields)?;
+    Ok((design_of(rates, fields), gains_of(fields)))
 }

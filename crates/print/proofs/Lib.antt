@@ -1,2 +1,3 @@
--- Laws of a number's digits and of texts set one behind the other.
-pub mod Writing
+-- Laws of a number's digits and of the lines that are printed.
+pub mod Digits
+pub mod Lines

@@ -16,10 +16,6 @@ last_digits zero n = []
 last_digits (suc k) n = last_digits k (n / 10) ++ ((48 + n % 10) ∷ [])
 
 -- An integer: its digits, after '-', 45, where it is negative.
-abbrev pub magnitude_of : ℤ → ℕ
-magnitude_of (pos n) = n
-magnitude_of (negsuc n) = suc n
-
 unfoldable pub text_of : ℤ → List ℕ
 text_of (pos n) = decimal n
 text_of (negsuc n) = 45 ∷ decimal (suc n)

@@ -1,154 +1,195 @@
-// Numbers and lines, printed into a lent buffer from a place on. Each function answers the place behind what it wrote.
+// Numbers and lines, printed one behind the other into a page of bytes.
 #![tactic(auto)]
 
-ghost use Rattle.std.specs.Prelude.{◌≡◌, cond, ltb, ◌≤◌, ◌<◌, ◌+◌, ◌*◌, length};
-ghost use Rattle.print.specs.Number.{decimal, last_digits, magnitude_of, text_of};
-ghost use Rattle.print.specs.Print.{Put, roomed, line_text, end_of, refused_of};
+ghost use Rattle.std.specs.Prelude.{◌≡◌, ◌≤◌, ◌<◌, ◌+◌, ◌*◌, ◌++◌, [], ◌∷◌, length};
+ghost use Rattle.print.specs.Number.{decimal, last_digits, text_of};
+ghost use Rattle.print.specs.Print.{roomed, line_text, end_of, refused_of};
 
-// Of a number's bytes: a sign, 20 digits and what follows.
+use std::marker::Model;
+
+// The most bytes of a number and what follows it: a sign, 20 digits and a comma.
 const NUMBER: usize = 22;
 
+// The most bytes of the line at the end of a whole list, and of the line in its place.
+const END: usize = 70;
+
+const REFUSAL: usize = 52;
+
+// A page of N bytes, filled from its start on.
+#[derive(Drop)]
+pub struct Page<const N: usize> {
+    bytes: [u8; N],
+    used: usize,
+}
+
+// Clauses see the bytes that are printed.
+impl<const N: usize> Model for Page<N> {
+    ghost use Rattle.std.specs.Prelude.{ℕ, ◌≤◌, List, take};
+
+    ghost Value = { List ℕ };
+
+    ghost view = { λ p. take p.used p.bytes };
+
+    ghost invariant = { λ p. p.used ≤ N };
+}
+
 // How many digits n has.
+#[tactic(auto, using(crate::proofs::Digits::next_power))]
 fn width(n: u64) -> usize
     ensures { (decimal n ≡ last_digits result n) × (result ≤ 20) }
 {
     let tenth = n / 10;
-    let mut k: usize = 1;
     let mut power: u64 = 1;
-    while power <= tenth {
-        power = power * 10;
-        k += 1;
+    for k in 1..20 {
+        if tenth < power {
+            return k;
+        }
+        power *= 10;
     }
-    k
+    20
 }
 
 fn glyph(d: u64) -> u8
     requires { d < 10 }
     ensures { result ≡ 48 + d }
 {
-    48 + d as u8
+    b'0' + d as u8
 }
 
-// The digits go in from the last to the first, two by two: half as many divisions wait for one another.
-fn put_digits(n: u64, out: &mut [u8], at: usize) -> usize
-    requires { at + 20 ≤ length out.old }
-    ensures put { Put (decimal n) out.old at result out.new }
-    ensures upper_bound { result ≤ at + 20 }
+// Sets the last digits of n, as many as there are places. They go in from the last to the first, two by two: half as many divisions wait for one another.
+fn set_digits(n: u64, places: &mut [u8])
+    ensures { places.new ≡ last_digits (length places.old) n }
 {
-    let k = width(n);
-    let mut i = k;
+    let odd = places.len() % 2;
     let mut v = n;
-    while 1 < i {
-        i -= 2;
-        out[at + i + 1] = glyph(v % 10);
-        out[at + i] = glyph(v % 100 / 10);
-        v = v / 100;
+    for pair in (0..places.len() / 2).rev() {
+        let at = odd + 2 * pair;
+        places[at + 1] = glyph(v % 10);
+        places[at] = glyph(v / 10 % 10);
+        v /= 100;
     }
-    if 0 < i {
-        out[at] = glyph(v % 10);
-        return at + k;
+    if odd == 1 {
+        places[0] = glyph(v % 10);
     }
-    at + k
 }
 
-// How far a number is from zero.
-pub fn magnitude(z: i64) -> u64
-    ensures { result ≡ magnitude_of z }
-{
-    if 0 <= z {
-        return z as u64;
+impl<const N: usize> Page<N> {
+    pub fn new() -> Self
+        ensures { result ≡ [] }
+    {
+        Page {
+            bytes: [0; N],
+            used: 0,
+        }
     }
-    ((-1 - z) as u64) + 1
-}
 
-fn put_number(z: i64, out: &mut [u8], at: usize) -> usize
-    requires { at + 21 ≤ length out.old }
-    ensures put { Put (text_of z) out.old at result out.new }
-    ensures upper_bound { result ≤ at + 21 }
-{
-    if 0 <= z {
-        return put_digits(magnitude(z), out, at);
+    // What is printed so far.
+    pub fn text(&self) -> &[u8]
+        ensures { result.now ≡ self.now }
+    {
+        &self.bytes[..self.used]
     }
-    out[at] = b'-';
-    put_digits(magnitude(z), out, at + 1)
-}
 
-fn put_bytes(s: &[u8], out: &mut [u8], at: usize) -> usize
-    requires { at + length s.now ≤ length out.old }
-    ensures { Put s.now out.old at result out.new }
-{
-    let mut i: usize = 0;
-    while i < s.len() {
-        out[at + i] = s[i];
-        i += 1;
+    // How many bytes are left.
+    pub fn room(&self) -> usize
+        ensures { result + length self.now ≡ N }
+    {
+        N - self.used
     }
-    at + i
-}
 
-// What stands behind the first n of so many numbers.
-fn behind(n: usize, count: usize) -> u8
-    ensures { result ≡ cond (ltb n count) 44 10 }
-{
-    if n < count {
-        return b',';
+    pub fn clear(&mut self)
+        ensures { self.new ≡ [] }
+    {
+        self.used = 0;
     }
-    b'\n'
-}
 
-// Prints numbers as a line, or nothing where 22 bytes a number do not fit.
-pub fn put_row(values: &[i64], out: &mut [u8], at: usize) -> usize
-    ensures { Put (roomed (22 * length values.now) out.old at (line_text values.now))
-        out.old at result out.new }
-{
-    if out.len() < at {
-        return at;
+    fn put_byte(&mut self, byte: u8)
+        requires { length self.old < N }
+        ensures { self.new ≡ self.old ++ (byte ∷ []) }
+    {
+        self.bytes[self.used] = byte;
+        self.used += 1;
     }
-    if (out.len() - at) / NUMBER < values.len() {
-        return at;
-    }
-    let mut p = at;
-    let mut n: usize = 0;
-    while n < values.len() {
-        p = put_number(values[n], out, p);
-        n += 1;
-        out[p] = behind(n, values.len());
-        p += 1;
-    }
-    p
-}
 
-// Prints the line at the end of a whole list, or nothing where 70 bytes do not fit.
-pub fn put_end(samples: u64, symbols: u64, t: i64, out: &mut [u8], at: usize) -> usize
-    ensures { Put (roomed 70 out.old at (end_of samples symbols t)) out.old at result out.new }
-{
-    if out.len() < at {
-        return at;
+    fn put_bytes(&mut self, s: &[u8])
+        requires { length self.old + length s.now ≤ N }
+        ensures { self.new ≡ self.old ++ s.now }
+    {
+        let end = self.used + s.len();
+        let bytes = &mut self.bytes[..];
+        bytes[self.used..end].copy_from_slice(s);
+        self.used = end;
     }
-    if out.len() - at < 70 {
-        return at;
-    }
-    let mut p = put_bytes(b"end,", out, at);
-    p = put_digits(samples, out, p);
-    p = put_bytes(b",", out, p);
-    p = put_digits(symbols, out, p);
-    p = put_bytes(b",", out, p);
-    p = put_number(t, out, p);
-    put_bytes(b"\n", out, p)
-}
 
-// Prints the line that stands in place of it where the input is refused, or nothing where 52 bytes do not fit.
-pub fn put_refusal(number: u32, line: u64, out: &mut [u8], at: usize) -> usize
-    ensures { Put (roomed 52 out.old at (refused_of number line)) out.old at result out.new }
-{
-    if out.len() < at {
-        return at;
+    fn put_digits(&mut self, n: u64)
+        requires { length self.old + 20 ≤ N }
+        ensures put { self.new ≡ self.old ++ decimal n }
+        ensures most { length self.new ≤ length self.old + 20 }
+    {
+        let end = self.used + width(n);
+        let bytes = &mut self.bytes[..];
+        set_digits(n, &mut bytes[self.used..end]);
+        self.used = end;
     }
-    if out.len() - at < 52 {
-        return at;
+
+    fn put_number(&mut self, z: i64)
+        requires { length self.old + 21 ≤ N }
+        ensures put { self.new ≡ self.old ++ text_of z }
+        ensures most { length self.new ≤ length self.old + 21 }
+    {
+        if z < 0 {
+            self.put_byte(b'-');
+        }
+        self.put_digits(z.unsigned_abs());
     }
-    let mut p = put_bytes(b"refused,", out, at);
-    p = put_digits(number as u64, out, p);
-    p = put_bytes(b",", out, p);
-    p = put_digits(line, out, p);
-    put_bytes(b"\n", out, p)
+
+    // Prints numbers as a line, or nothing where 22 bytes a number do not fit.
+    pub fn put_row(&mut self, values: &[i64])
+        ensures { self.new ≡ self.old ++ roomed (22 * length values.now) N self.old (line_text values.now) }
+    {
+        if self.room() / NUMBER < values.len() {
+            return;
+        }
+        let Some((last, others)) = values.split_last() else {
+            return;
+        };
+        for value in others {
+            self.put_number(*value);
+            self.put_byte(b',');
+        }
+        self.put_number(*last);
+        self.put_byte(b'\n');
+    }
+
+    // Prints the line at the end of a whole list, or nothing where 70 bytes do not fit.
+    #[tactic(auto, using(crate::proofs::Lines::with_room, crate::proofs::Lines::without_room, crate::proofs::Lines::end_parts))]
+    pub fn put_end(&mut self, samples: u64, symbols: u64, t: i64)
+        ensures { self.new ≡ self.old ++ roomed 70 N self.old (end_of samples symbols t) }
+    {
+        if self.room() < END {
+            return;
+        }
+        self.put_bytes(b"end,");
+        self.put_digits(samples);
+        self.put_bytes(b",");
+        self.put_digits(symbols);
+        self.put_bytes(b",");
+        self.put_number(t);
+        self.put_bytes(b"\n");
+    }
+
+    // Prints the line that stands in place of it where the input is refused, or nothing where 52 bytes do not fit.
+    #[tactic(auto, using(crate::proofs::Lines::with_room, crate::proofs::Lines::without_room, crate::proofs::Lines::refused_parts))]
+    pub fn put_refusal(&mut self, number: u32, line: u64)
+        ensures { self.new ≡ self.old ++ roomed 52 N self.old (refused_of number line) }
+    {
+        if self.room() < REFUSAL {
+            return;
+        }
+        self.put_bytes(b"refused,");
+        self.put_digits(u64::from(number));
+        self.put_bytes(b",");
+        self.put_digits(line);
+        self.put_bytes(b"\n");
+    }
 }

@@ -9,7 +9,7 @@ pub use lines::next_line;
 pub use places::{bank_length, keep_pair, keep_row, row_length};
 
 // What comes next in the input.
-#[derive(Clone, Copy)]
+#[derive(Clone, Copy, PartialEq, Eq, Debug)]
 pub enum Next {
     // A line of so many bytes. Its line feed stands behind them.
     Line(usize),
@@ -17,6 +17,27 @@ pub enum Next {
     More,
     // Nothing, and nothing is missing.
     End,
-    // What refuses the input, by its number.
-    Refused(u32),
+}
+
+// Why the input is refused where its next line is looked for.
+#[derive(Clone, Copy, PartialEq, Eq, Debug)]
+pub enum InputError {
+    // The line is too long, or the input ends within it.
+    Malformed,
+    // The input ends before a line that every input has.
+    Missing,
+}
+
+impl InputError {
+    ghost use Rattle.std.specs.Prelude.{◌≡◌};
+    ghost use Rattle.recording.specs.Lines.{input_number};
+
+    pub fn number(self) -> u32
+        ensures { result ≡ input_number self }
+    {
+        match self {
+            InputError::Malformed => 18,
+            InputError::Missing => 20,
+        }
+    }
 }

@@ -1,38 +1,40 @@
-// The next line of the input, or the number that its end has.
+// The next line of the input, or what is wrong with its end.
 ghost use Rattle.std.specs.Prelude.{◌≡◌};
 ghost use Rattle.recording.specs.Lines.{next_of, next_at_end};
 
-use crate::Next;
+use crate::{InputError, Next};
 use text::LineEnd;
 
 // The last line that every input has: behind the sheet's fields come 64 rows of each of three banks.
 const NEEDED: u64 = 193;
 
 // The input is at its end, behind so many bytes of this line.
-fn end(unread: usize, line: u64) -> Next
+#[tactic(auto, unfolding(crate::specs::Lines::next_at_end))]
+fn end(unread: usize, line: u64) -> Result<Next, InputError>
     ensures { result ≡ next_at_end unread line }
 {
     if 0 < unread {
-        return Next::Refused(18);
+        return Err(InputError::Malformed);
     }
     if line <= NEEDED {
-        return Next::Refused(20);
+        return Err(InputError::Missing);
     }
-    Next::End
+    Ok(Next::End)
 }
 
 // What the bytes that are read and not used yet begin with, at this line; `over` where nothing is behind them.
-pub fn next_line(bytes: &[u8], over: bool, line: u64) -> Next
+#[tactic(auto, unfolding(crate::specs::Lines::next_of))]
+pub fn next_line(bytes: &[u8], over: bool, line: u64) -> Result<Next, InputError>
     ensures { result ≡ next_of bytes.now over line }
 {
     match text::line_end(bytes) {
-        LineEnd::After(n) => Next::Line(n),
-        LineEnd::TooLong => Next::Refused(18),
+        LineEnd::After(n) => Ok(Next::Line(n)),
+        LineEnd::TooLong => Err(InputError::Malformed),
         LineEnd::Open => {
             if over {
                 return end(bytes.len(), line);
             }
-            Next::More
+            Ok(Next::More)
         }
     }
 }

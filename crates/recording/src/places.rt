@@ -8,7 +8,7 @@ ghost use Rattle.recording.specs.Places.{pair_at};
 pub fn row_length(taps: u32) -> usize
     ensures { result ≡ min taps 64 }
 {
-    arith::least(taps as usize, 64)
+    (taps as usize).min(64)
 }
 
 // The numbers of a bank, whatever the taps are: never more than there is room for.
@@ -24,25 +24,21 @@ pub fn keep_row(row: &[i64], bank: &mut [i32], from: usize) -> usize
     ensures next { result ≡ min (from + length row.now) (length bank.old) }
     ensures bank { bank.new ≡ sets bank.old from (map narrow_i32 row.now) }
 {
-    let start = arith::least(from, bank.len());
-    let n = arith::least(row.len(), bank.len() - start);
-    let mut i: usize = 0;
-    while i < n {
-        let c = arith::narrow_i32(row[i]);
-        bank[start + i] = c;
-        i += 1;
+    let start = from.min(bank.len());
+    let n = row.len().min(bank.len() - start);
+    for (i, value) in row[..n].iter().enumerate() {
+        bank[start + i] = arith::narrow_i32(*value);
     }
     start + n
 }
 
 // Puts pair n into its two places of the sample values, if there are two.
+#[tactic(auto, unfolding(crate::specs::Places::pair_at))]
 pub fn keep_pair(i: i64, q: i64, values: &mut [i16], n: usize)
     ensures { values.new ≡ pair_at values.old n i q }
 {
     if n < values.len() / 2 {
-        let first = arith::narrow_i16(i);
-        let second = arith::narrow_i16(q);
-        values[2 * n] = first;
-        values[2 * n + 1] = second;
+        values[2 * n] = arith::narrow_i16(i);
+        values[2 * n + 1] = arith::narrow_i16(q);
     }
 }

@@ -1,12 +1,12 @@
 -- A symbol's step on the six registers, of any registers and any sheet: they change as one group, or are left as they are.
 -- (RULES 3.6, 3.11)
-use Rattle.std.specs.Prelude.{ℕ, ◌+◌, ◌/◌, Bool, true, false, cond, ◌&&◌, eqb, ltb, ℤ, pos, neg_ℤ, ◌+ℤ◌, ◌-ℤ◌}
+use Rattle.std.specs.Prelude.{ℕ, ◌+◌, ◌/◌, Bool, true, false, cond, ◌&&◌, eqb, ltb, Option, ℤ, pos, neg_ℤ, ◌+ℤ◌, ◌-ℤ◌}
 use Rattle.std.specs.Int.Signed.{le_z, lt_z}
+use Rattle.std.specs.Option.{unwrap_or}
 use Rattle.params.specs.declared.Params.{Params}
 use Rattle.arith.specs.Arith.{within}
 use Rattle.registers.specs.declared.Pending.{Pending}
 use Rattle.registers.specs.declared.Registers.{Registers}
-use Rattle.registers.specs.declared.AfterSymbol.{AfterSymbol}
 use Rattle.registers.specs.Correct.{integrator_end, corrected}
 
 -- The errors of a symbol are applied at the symbol that comes `delay` later. So the oldest are due where as many wait.
@@ -41,6 +41,15 @@ left r = record {
   symbols = r.symbols + 1;
 }
 
+-- What a symbol makes of the registers, and whether it was made; where not, they are as given.
+pub record AfterSymbol : Type 0 where
+  pub registers : Registers
+  pub made : Bool
+
 -- Both, where a symbol can be made; otherwise the registers as they are, and the answer that none was made.
 unfoldable pub after_symbol : Params → Registers → Bool → Pending → AfterSymbol
 after_symbol p r due w = cond (can_make_symbol p r) (record { registers = left (found p r due w); made = true }) (record { registers = r; made = false })
+
+-- The errors that are due; where none are, none of both.
+abbrev pub errors_of : Option Pending → Pending
+errors_of due = unwrap_or due (record { e = pos 0; err = pos 0 })

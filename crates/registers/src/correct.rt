@@ -3,7 +3,7 @@ ghost use Rattle.std.specs.Prelude.{◌≡◌, ◌^◌, ◌≤◌, nat_abs, ◌*
 ghost use Rattle.arith.specs.Arith.{round_shift};
 ghost use Rattle.registers.specs.Correct.{next_v, next_period, next_gain, corrected};
 
-use crate::Registers;
+use crate::{Pending, Registers};
 use params::Params;
 
 // An error times a gain of `gain` / 2^shift.
@@ -24,7 +24,6 @@ fn next_v(p: Params, v: i64, e: i32) -> i64
 
 // The period, by the integrator's new value.
 fn next_period(p: Params, v: i64, e: i32) -> u32
-    requires { nat_abs v ≤ 2 ^ 61 }
     ensures { result ≡ next_period p v e }
 {
     let base = p.period_nominal as i64 + (v >> 16);
@@ -46,18 +45,15 @@ fn next_gain(p: Params, acc: u32, err: i32) -> u32
     ) as u32
 }
 
-// The registers with one symbol's errors applied.
-pub(crate) fn correct(p: Params, r: Registers, e: i32, err: i32) -> Registers
-    requires { nat_abs r.v ≤ 2 ^ 61 }
-    ensures { result ≡ corrected p r (record { e = e; err = err }) }
-{
-    let v = next_v(p, r.v, e);
-    Registers {
-        nco: r.nco,
-        t_acc: r.t_acc,
-        v,
-        period: next_period(p, v, e),
-        gain_acc: next_gain(p, r.gain_acc, err),
-        symbols: r.symbols,
+impl Registers {
+    // Applies the errors of one symbol.
+    #[tactic(auto, unfolding(crate::specs::Correct::corrected))]
+    pub(crate) fn correct(&mut self, p: Params, w: Pending)
+        requires { nat_abs self.old.v ≤ 2 ^ 61 }
+        ensures { self.new ≡ corrected p self.old w }
+    {
+        self.v = next_v(p, self.v, w.e);
+        self.period = next_period(p, self.v, w.e);
+        self.gain_acc = next_gain(p, self.gain_acc, w.err);
     }
 }

@@ -2,10 +2,8 @@
 #![tactic(auto)]
 
 mod correct;
-mod lent;
 mod step;
 
-pub use lent::{change, changed};
 pub use step::is_due;
 
 // The errors that one symbol leaves: of the timing, and of the gain. They wait until the loop's delay is over.
@@ -30,11 +28,4 @@ pub struct Registers {
     pub gain_acc: u32,
     // Symbols made so far.
     pub symbols: u64,
-}
-
-// What a symbol makes of the registers, and whether it was made; where not, they are as given.
-#[derive(Clone, Copy)]
-pub struct AfterSymbol {
-    pub registers: Registers,
-    pub made: bool,
 }

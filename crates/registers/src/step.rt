@@ -1,8 +1,8 @@
 // A symbol's step on the six registers: they change as one group, whatever they hold (RULES 3.11).
-ghost use Rattle.std.specs.Prelude.{◌≡◌, ◌^◌, ◌%◌, ◌≤◌, ◌<◌, nat_abs};
-ghost use Rattle.registers.specs.Step.{is_due, gain_of, can_make_symbol, found, left, after_symbol};
+ghost use Rattle.std.specs.Prelude.{◌≡◌, ◌^◌, ◌%◌, ◌≤◌, ◌<◌, is_some, nat_abs};
+ghost use Rattle.registers.specs.Step.{is_due, gain_of, can_make_symbol, left, errors_of, after_symbol};
 
-use crate::{AfterSymbol, Pending, Registers, correct};
+use crate::{Pending, Registers};
 use params::Params;
 
 // Whether errors are due where so many wait: the errors of a symbol are applied at the symbol that comes `delay` later.
@@ -32,46 +32,28 @@ impl Registers {
             && self.symbols < 0xffff_ffff_ffff_ffff
     }
 
-    // The registers as a symbol finds them: the errors that are due, if any are, applied.
-    fn found(self, p: Params, due: bool, w: Pending) -> Registers
-        requires { nat_abs self.v ≤ 2 ^ 61 }
-        ensures { result ≡ found p self due w }
+    // The registers as a symbol leaves them: the next one is a period on, less the sample that goes by, and one more is counted.
+    #[tactic(auto, unfolding(crate::specs::Step::left))]
+    fn leave(&mut self)
+        requires { (nat_abs self.old.t_acc ≤ 2 ^ 61) × (self.old.symbols < 18446744073709551615) }
+        ensures { self.new ≡ left self.old }
     {
-        if due {
-            return correct::correct(p, self, w.e, w.err);
-        }
-        self
+        self.t_acc = self.t_acc + self.period as i64 - 0x100_0000;
+        self.symbols += 1;
     }
 
-    // And as it leaves them.
-    fn left(self) -> Registers
-        requires { (nat_abs self.t_acc ≤ 2 ^ 61) × (self.symbols < 18446744073709551615) }
-        ensures { result ≡ left self }
-    {
-        Registers {
-            nco: self.nco,
-            t_acc: self.t_acc + self.period as i64 - 0x100_0000,
-            v: self.v,
-            period: self.period,
-            gain_acc: self.gain_acc,
-            symbols: self.symbols + 1,
-        }
-    }
-
-    // The registers after a symbol. `w` are the errors that wait longest; they are applied where `due` says that the loop's delay is over.
-    pub fn after_symbol(self, p: Params, due: bool, w: Pending) -> AfterSymbol
-        ensures { result ≡ after_symbol p self due w }
+    // Changes the registers as a symbol does, by the errors that are `due` if any are, and answers true.
+    // Where no symbol can be made of them it leaves them and answers false.
+    pub fn step(&mut self, p: Params, due: Option<Pending>) -> bool
+        ensures { record { registers = self.new; made = result } ≡ after_symbol p self.old (is_some due) (errors_of due) }
     {
         if !self.can_make_symbol(p) {
-            return AfterSymbol {
-                registers: self,
-                made: false,
-            };
+            return false;
         }
-        let d = self.found(p, due, w);
-        AfterSymbol {
-            registers: d.left(),
-            made: true,
+        if let Some(w) = due {
+            self.correct(p, w);
         }
+        self.leave();
+        true
     }
 }

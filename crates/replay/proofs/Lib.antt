@@ -1,3 +1,3 @@
 -- Laws of tests and of floats by their bits that the proofs share.
-mod Laws
+
 mod Patterns

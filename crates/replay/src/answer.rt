@@ -1,92 +1,54 @@
 // Refusals in the numbers that a row has for them: a refusal's number (docs/REFUSALS.md) and what it carries, or 0.
-ghost use Rattle.std.specs.Prelude.{◌≡◌, pos};
-ghost use Rattle.rows.specs.Rows.{signed_bits};
-ghost use Rattle.replay.specs.Answer.{carries_none, carries_one, carries_three, of_error, is_answer};
+ghost use Rattle.std.specs.Prelude.{◌≡◌};
+ghost use Rattle.replay.specs.Answer.{of_error, is_answer};
 
 use params::ParamError;
 
-// A refusal, as so many numbers of the four. What it does not carry is 0.
-#[derive(Clone, Copy)]
-pub struct Answer {
-    pub long: usize,
-    pub number: u32,
-    pub first: i64,
-    pub second: i64,
-    pub third: i64,
+// A refusal by its number: alone, with a value that it carries, or with three.
+#[derive(Clone, Copy, PartialEq, Eq, Debug)]
+pub enum Answer {
+    Alone(u32),
+    One(u32, i64),
+    Three(u32, i64, i64, i64),
 }
 
-// A refusal that carries nothing.
-pub fn alone(number: u32) -> Answer
-    ensures { result ≡ carries_none number }
-{
-    Answer {
-        long: 1,
-        number,
-        first: 0,
-        second: 0,
-        third: 0,
-    }
-}
+impl From<ParamError> for Answer {
+    ghost use Rattle.std.specs.Prelude.{◌≡◌};
+    ghost use Rattle.replay.specs.Answer.{of_error};
 
-fn of_bank(number: u32, bank: u8) -> Answer
-    ensures { result ≡ carries_one number (pos bank) }
-{
-    Answer {
-        long: 2,
-        number,
-        first: bank as i64,
-        second: 0,
-        third: 0,
-    }
-}
+    ghost from_gives = { λ e a. a ≡ of_error e };
 
-fn of_row(number: u32, bank: u8, phase: usize, carried: i64) -> Answer
-    ensures { result ≡ carries_three number (pos bank) (signed_bits phase) carried }
-{
-    Answer {
-        long: 4,
-        number,
-        first: bank as i64,
-        second: rows::i64_of(phase as u64),
-        third: carried,
-    }
-}
-
-// The refusal of a sheet.
-pub fn of_error(e: ParamError) -> Answer
-    ensures { result ≡ of_error e }
-{
-    let number = e.number();
-    match e {
-        ParamError::Coefficient { bank, phase, value } => {
-            of_row(number, bank, phase, rows::wide(value))
+    fn from(e: ParamError) -> Answer {
+        let number = e.number();
+        match e {
+            ParamError::Coefficient { bank, phase, value } => Answer::Three(
+                number,
+                i64::from(bank as u8),
+                rows::i64_of(phase as u64),
+                i64::from(value),
+            ),
+            ParamError::CoefficientSum { bank, phase, sum } => Answer::Three(
+                number,
+                i64::from(bank as u8),
+                rows::i64_of(phase as u64),
+                rows::i64_of(sum),
+            ),
+            ParamError::DetectorTaps { bank } => Answer::One(number, i64::from(bank as u8)),
+            ParamError::Range { field } => Answer::One(number, i64::from(field as u8)),
+            _ => Answer::Alone(number),
         }
-        ParamError::CoefficientSum { bank, phase, sum } => {
-            of_row(number, bank, phase, rows::i64_of(sum))
-        }
-        ParamError::DetectorTaps { bank } => of_bank(number, bank),
-        ParamError::Range { field } => of_bank(number, field),
-        _ => alone(number),
     }
 }
 
 impl Answer {
-    // Whether these are the answer's numbers, no fewer and no more. What the answer does not carry is 0, as what the numbers have no place for.
+    // Whether these are the answer's numbers, no fewer and no more.
     pub fn is(self, numbers: &[i64]) -> bool
         ensures { result ≡ is_answer self numbers.now }
     {
-        if numbers.len() != self.long {
-            return false;
+        match self {
+            Answer::Alone(number) => numbers == [i64::from(number)].as_slice(),
+            Answer::One(number, a) => numbers == [i64::from(number), a].as_slice(),
+            Answer::Three(number, a, b, c) => numbers == [i64::from(number), a, b, c].as_slice(),
         }
-        if rows::at(numbers, 0) != self.number as i64 {
-            return false;
-        }
-        if rows::at(numbers, 1) != self.first {
-            return false;
-        }
-        if rows::at(numbers, 2) != self.second {
-            return false;
-        }
-        rows::at(numbers, 3) == self.third
     }
 }

@@ -1,96 +1,74 @@
 // The three banks that rows give. They share one room, h's third of it first, then g's and k's.
-ghost use Rattle.std.specs.Prelude.{◌≡◌, length, take, drop};
-ghost use Rattle.replay.specs.Banks.{no_banks, kept_of, room_with};
+ghost use Rattle.std.specs.Prelude.{◌≡◌, ◌*◌, ◌<◌};
+ghost use Rattle.params.specs.Refusal.{bank_number};
+ghost use Rattle.params.specs.Judge.{sheet_of};
+ghost use Rattle.params.specs.declared.Bank.TheVariants.{H, G, K};
+ghost use Rattle.replay.specs.Banks.{no_banks, kept, bank_of};
+
+use params::{Bank, Params, Sheet};
 
 // The places of a bank's third.
 const THIRD: usize = 8192;
 
-// How much of its third each bank takes.
-#[derive(Clone, Copy)]
+// A bank's place among the three.
+fn number_of(bank: Bank) -> usize
+    ensures is { result ≡ bank_number bank }
+    ensures among { result < 3 }
+{
+    bank as usize
+}
+
+// Where a bank's third begins.
+fn start_of(bank: Bank) -> usize
+    ensures is { result ≡ bank_number bank * 8192 }
+    ensures within { result < 24576 }
+{
+    number_of(bank) * THIRD
+}
+
+// The banks, and how many places of its third each takes.
+#[derive(Drop)]
 pub struct Banks {
-    pub h: usize,
-    pub g: usize,
-    pub k: usize,
-}
-
-// Keeps a bank's coefficients in the third from a place on, and says how many there are.
-fn keep(coefficients: &[i64], room: &mut [i32], from: usize) -> usize
-    ensures value { result ≡ kept_of (length coefficients.now) (length room.old) from }
-    ensures room_after { room.new ≡ room_with coefficients.now room.old from }
-{
-    let most = arith::least(THIRD, coefficients.len());
-    let start = arith::least(from, room.len());
-    recording::keep_row(&coefficients[..most], room, from) - start
-}
-
-// The bank in the third from a place on.
-fn part(room: &[i32], from: usize, long: usize) -> &[i32]
-    ensures { result.now ≡ take long (drop from room.now) }
-{
-    let start = arith::least(from, room.len());
-    let end = start + arith::least(long, room.len() - start);
-    &room[start..end]
+    pub lengths: [usize; 3],
+    pub room: [i32; 24576],
 }
 
 impl Banks {
     pub fn none() -> Banks
         ensures { result ≡ no_banks }
     {
-        Banks { h: 0, g: 0, k: 0 }
-    }
-
-    pub fn h(self, room: &[i32]) -> &[i32]
-        ensures { result.now ≡ take self.h room.now }
-    {
-        part(room, 0, self.h)
-    }
-
-    pub fn g(self, room: &[i32]) -> &[i32]
-        ensures { result.now ≡ take self.g (drop 8192 room.now) }
-    {
-        part(room, THIRD, self.g)
-    }
-
-    pub fn k(self, room: &[i32]) -> &[i32]
-        ensures { result.now ≡ take self.k (drop 16384 room.now) }
-    {
-        part(room, 2 * THIRD, self.k)
-    }
-
-    // With other coefficients of a bank.
-    pub fn with_h(self, coefficients: &[i64], room: &mut [i32]) -> Banks
-        ensures value { result ≡ record { h = kept_of (length coefficients.now) (length room.old) 0; g = self.g; k = self.k } }
-        ensures room_after { room.new ≡ room_with coefficients.now room.old 0 }
-    {
-        let h = keep(coefficients, room, 0);
         Banks {
-            h,
-            g: self.g,
-            k: self.k,
+            lengths: [0; 3],
+            room: [0; 24576],
         }
     }
 
-    pub fn with_g(self, coefficients: &[i64], room: &mut [i32]) -> Banks
-        ensures value { result ≡ record { h = self.h; g = kept_of (length coefficients.now) (length room.old) 8192; k = self.k } }
-        ensures room_after { room.new ≡ room_with coefficients.now room.old 8192 }
+    // Keeps other coefficients of a bank.
+    pub fn keep(&mut self, bank: Bank, coefficients: &[i64])
+        ensures { self.new ≡ kept self.old bank coefficients.now }
     {
-        let g = keep(coefficients, room, THIRD);
-        Banks {
-            h: self.h,
-            g,
-            k: self.k,
-        }
+        let from = start_of(bank);
+        let most = THIRD.min(coefficients.len());
+        let end = recording::keep_row(&coefficients[..most], &mut self.room, from);
+        self.lengths[number_of(bank)] = end - from;
     }
 
-    pub fn with_k(self, coefficients: &[i64], room: &mut [i32]) -> Banks
-        ensures value { result ≡ record { h = self.h; g = self.g; k = kept_of (length coefficients.now) (length room.old) 16384 } }
-        ensures room_after { room.new ≡ room_with coefficients.now room.old 16384 }
+    // A bank's coefficients.
+    pub fn bank(&self, bank: Bank) -> &[i32]
+        ensures { result.now ≡ bank_of self.now bank }
     {
-        let k = keep(coefficients, room, 2 * THIRD);
-        Banks {
-            h: self.h,
-            g: self.g,
-            k,
+        let places = rows::rest(&self.room, start_of(bank));
+        &places[..self.lengths[number_of(bank)].min(places.len())]
+    }
+    // A sheet of the three.
+    pub fn sheet(&self, params: Params) -> Sheet<'_>
+        ensures { result ≡ sheet_of params (bank_of self.now H) (bank_of self.now G) (bank_of self.now K) }
+    {
+        Sheet {
+            params,
+            h: self.bank(Bank::H),
+            g: self.bank(Bank::G),
+            k: self.bank(Bank::K),
         }
     }
 }

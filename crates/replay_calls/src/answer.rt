@@ -1,42 +1,42 @@
 // The answers of calls in the numbers that a row has for them: a refusal's number (RULES 1.4, 4.1, 4.4) and what it carries, or 0.
-use params::Verdict;
-use replay::answer;
+use params::ParamError;
 use replay::answer::Answer;
-use retune::RetuneVerdict;
-use state::FrontendVerdict;
+use retune::RetuneError;
+use state::FrontendError;
 
-// Whether these are the first numbers of a row, or of a part of one.
-pub(crate) fn begins(row: &[i64], numbers: &[i64]) -> bool {
-    if row.len() < numbers.len() {
-        return false;
+// Why a call is refused.
+pub(crate) trait Refusal {
+    fn answer(&self) -> Answer;
+}
+
+impl Refusal for ParamError {
+    fn answer(&self) -> Answer {
+        Answer::from(*self)
     }
-    let mut n: usize = 0;
-    while n < numbers.len() {
-        if numbers[n] != rows::at(row, n) {
-            return false;
+}
+
+impl Refusal for FrontendError {
+    fn answer(&self) -> Answer {
+        match self {
+            FrontendError::Params(e) => Answer::from(*e),
+            _ => Answer::Alone(self.number()),
         }
-        n += 1;
-    }
-    true
-}
-
-pub(crate) fn of_verdict(v: Verdict) -> Answer {
-    match v {
-        Verdict::Accepted => answer::alone(0),
-        Verdict::Refused(e) => answer::of_error(e),
     }
 }
 
-pub(crate) fn of_frontend(v: FrontendVerdict) -> Answer {
-    match v {
-        FrontendVerdict::Params(e) => answer::of_error(e),
-        _ => answer::alone(v.number()),
+impl Refusal for RetuneError {
+    fn answer(&self) -> Answer {
+        match self {
+            RetuneError::Params(e) => Answer::from(*e),
+            _ => Answer::Alone(self.number()),
+        }
     }
 }
 
-pub(crate) fn of_retune(v: RetuneVerdict) -> Answer {
-    match v {
-        RetuneVerdict::Params(e) => answer::of_error(e),
-        _ => answer::alone(v.number()),
+// Whether these are the numbers of what a call answers beside its values.
+pub(crate) fn is<T, E: Refusal>(answer: &Result<T, E>, numbers: &[i64]) -> bool {
+    match answer {
+        Ok(_) => Answer::Alone(0).is(numbers),
+        Err(e) => e.answer().is(numbers),
     }
 }

@@ -1,317 +1,197 @@
 // What the rows do: some are kept for the calls to come, the others make a call on what is in force and have its answer (oracle/README.md, 'Rows of calls').
-use crate::sheet::Sheet;
 use crate::{answer, states};
 use fixed::Processed;
-use places::ReadSheet;
-use rows::Tally;
-use state::Frontend;
+use params::{Bank, Params, Sheet};
+use replay::banks::Banks;
+use rows::Replay;
+use state::{Frontend, FrontendError};
 
-// What the rows so far leave: how many answers were compared, and what is in force.
-#[derive(Clone, Copy)]
-pub(crate) struct Replay {
-    pub(crate) tally: Tally,
-    sheet: Sheet,
+// What is in force.
+#[derive(Drop)]
+pub(crate) struct Calls {
+    params: Params,
+    banks: Banks,
     state: Frontend,
-    // How many sample values are in force.
-    values: usize,
-    // How many places the output of the last block has.
+    // The sample values, and how many there are.
+    values: [i16; 8192],
+    given: usize,
+    // The output of the last block, and how many places of it the block was given.
+    out: [i64; 81920],
     places: usize,
 }
 
-// ---- rows that are kept
-
-// Keeps sample values, and says how many.
-fn keep_values(numbers: &[i64], values: &mut [i16]) -> usize {
-    let n = arith::least(numbers.len(), values.len());
-    let mut i: usize = 0;
-    while i < n {
-        let v = arith::narrow_i16(numbers[i]);
-        values[i] = v;
-        i += 1;
-    }
-    n
-}
-
-// ---- a block's output
-
 // What an output holds at a place before a block is asked for: a number far below those of symbols.
 fn pattern(place: usize) -> i64 {
-    rows::i64_of(std::num::wrapping_sub_u64(0xc000_0000_0000_0000, place as u64))
-}
-
-fn fill(out: &mut [i64]) {
-    let mut n: usize = 0;
-    while n < out.len() {
-        let v = pattern(n);
-        out[n] = v;
-        n += 1;
-    }
+    rows::i64_of(0xc000_0000_0000_0000u64.wrapping_sub(place as u64))
 }
 
 // Whether an output has room for so many symbols, and still holds the pattern behind them.
 fn is_kept_behind(out: &[i64], count: usize) -> bool {
-    if out.len() / 20 < count {
-        return false;
-    }
-    let mut n = 20 * count;
-    while n < out.len() {
-        if out[n] != pattern(n) {
-            return false;
-        }
-        n += 1;
-    }
-    true
+    count <= out.len() / 20
+        && out
+            .iter()
+            .enumerate()
+            .skip(20 * count)
+            .all(|(place, number)| *number == pattern(place))
 }
 
-// Whether a row 10 has the answer of a block that was given this output. It has no symbols where it refuses, and then none of the output is written.
-fn is_block(row: &[i64], block: Processed, out: &[i64]) -> bool {
-    let verdict = block.verdict;
-    let refusal = answer::of_frontend(verdict);
+// Whether these are the answer of a block that was given this output. It has no symbols where it refuses, and then none of the output is written.
+fn is_block(numbers: &[i64], block: &Result<Processed, FrontendError>, out: &[i64]) -> bool {
+    let (count, taken, clips) = match block {
+        Ok(done) => (done.count, done.taken, done.clips),
+        Err(_) => (0, 0, 0),
+    };
     let told = [
         rows::i64_of(out.len() as u64),
-        rows::i64_of(block.count as u64),
-        rows::i64_of(block.taken as u64),
-        rows::i64_of(block.clips as u64),
+        rows::i64_of(count as u64),
+        rows::i64_of(taken as u64),
+        rows::i64_of(clips as u64),
     ];
-    answer::begins(rows::rest(row, 1), &told)
-        && refusal.is(rows::rest(row, 5))
-        && is_kept_behind(out, block.count)
+    numbers.starts_with(&told)
+        && answer::is(block, rows::rest(numbers, 4))
+        && is_kept_behind(out, count)
 }
 
-impl Replay {
-    pub(crate) fn new() -> Replay {
-        Replay {
-            tally: Tally::new(),
-            sheet: Sheet::empty(),
+impl Calls {
+    // Zeros, with nothing kept.
+    pub(crate) fn new() -> Calls {
+        Calls {
+            params: fields::none(),
+            banks: Banks::none(),
             state: states::of_numbers(&[]),
-            values: 0,
+            values: [0; 8192],
+            given: 0,
+            out: [0; 81920],
             places: 0,
         }
     }
 
-    fn counted(self, agrees: bool) -> Replay {
-        let tally = self.tally;
-        let mut next = self;
-        next.tally = tally.counted(agrees);
-        next
+    // ---- rows that are kept
+
+    // Row 0: the fields of a sheet. Where they are no sheet's, it is an answer that differs.
+    fn keep_fields(&mut self, numbers: &[i64]) -> Option<bool> {
+        match places::read_sheet(numbers) {
+            Ok(params) => {
+                self.params = params;
+                None
+            }
+            Err(_) => Some(false),
+        }
+    }
+
+    // Row 7: sample values.
+    fn keep_values(&mut self, numbers: &[i64]) {
+        for (value, number) in self.values.iter_mut().zip(numbers) {
+            *value = i16::try_from(*number).unwrap_or(0);
+        }
+        self.given = numbers.len().min(self.values.len());
+    }
+
+    // ---- calls
+
+    fn sheet(&self) -> Sheet<'_> {
+        self.banks.sheet(self.params)
     }
 
     // Row 4.
-    fn is_judged(self, row: &[i64], room: &[i32]) -> bool {
-        let sheet = self.sheet;
-        let params = sheet.params;
-        let banks = sheet.banks;
-        let verdict = params.validate(banks.h(room), banks.g(room), banks.k(room));
-        answer::of_verdict(verdict).is(rows::rest(row, 1))
+    fn is_judged(&self, numbers: &[i64]) -> bool {
+        answer::is(&self.sheet().validate(), numbers)
     }
 
     // Row 5: of a refusal it has the number alone.
-    fn is_offset(self, row: &[i64], room: &[i32]) -> bool {
-        let sheet = self.sheet;
-        let params = sheet.params;
-        let banks = sheet.banks;
-        let period = arith::wrap_u32(rows::at(row, 1));
-        let offset = offset::of_period(params, banks.h(room), banks.g(room), banks.k(room), period);
-        let verdict = offset.verdict;
-        row.len() == 4
-            && rows::at(row, 2) == offset.parts
-            && rows::at(row, 3) == verdict.number() as i64
+    fn is_offset(&self, numbers: &[i64]) -> bool {
+        let period = arith::wrap_u32(rows::at(numbers, 0));
+        let told = match offset::of_period(&self.sheet(), period) {
+            Ok(parts) => [parts, 0],
+            Err(e) => [0, i64::from(e.number())],
+        };
+        rows::rest(numbers, 1) == told.as_slice()
     }
 
-    // Row 8: starting.
-    fn started(self, row: &[i64], room: &[i32]) -> Replay {
-        let sheet = self.sheet;
-        let params = sheet.params;
-        let banks = sheet.banks;
-        let started = Frontend::new(params, banks.h(room), banks.g(room), banks.k(room));
-        let verdict = started.verdict;
-        let state = started.state;
-        let mut next = self;
-        next.state = state;
-        next.counted(answer::of_verdict(verdict).is(rows::rest(row, 1)))
+    // Row 8: starting. Where that is refused, zeros are left.
+    fn is_started(&mut self, numbers: &[i64]) -> bool {
+        let started = Frontend::new(&self.sheet());
+        self.state = started.unwrap_or(Frontend::fresh(fields::none()));
+        answer::is(&started, numbers)
     }
 
-    // Row 10: a block, into this output.
-    fn processed(self, row: &[i64], room: &[i32], values: &[i16], out: &mut [i64]) -> Replay {
-        fill(&mut *out);
-        let sheet = self.sheet;
-        let params = sheet.params;
-        let banks = sheet.banks;
-        let given = self.state;
-        let block = fixed::process(
-            given,
-            params,
-            banks.h(room),
-            banks.g(room),
-            banks.k(room),
-            values,
-            &mut *out,
-        );
-        let state = block.state;
-        let mut next = self;
-        next.state = state;
-        next.places = out.len();
-        next.counted(is_block(row, block, &*out))
-    }
-
-    // Row 11.
-    fn is_output(self, row: &[i64], out: &[i64]) -> bool {
-        let numbers = rows::rest(row, 2);
-        let places = arith::least(self.places, out.len());
-        let from = rows::u64_of(rows::at(row, 1)) as usize;
-        if places < from {
-            return false;
+    // Row 10: a block.
+    fn is_processed(&mut self, numbers: &[i64]) -> bool {
+        let out = &mut self.out[..];
+        for (place, number) in out.iter_mut().enumerate() {
+            *number = pattern(place);
         }
-        let end = from + arith::least(numbers.len(), places - from);
-        numbers.len() == end - from && answer::begins(numbers, &out[from..end])
+        self.places = (rows::at(numbers, 0).cast_unsigned() as usize).min(out.len());
+        let sheet = self.banks.sheet(self.params);
+        let given = self.given.min(self.values.len());
+        let values = &self.values[..given];
+        let block = fixed::process(&mut self.state, &sheet, values, &mut out[..self.places]);
+        is_block(numbers, &block, &out[..self.places])
+    }
+
+    // Row 11: a part of the last output.
+    fn is_output(&self, numbers: &[i64]) -> bool {
+        let from = rows::at(numbers, 0).cast_unsigned() as usize;
+        match self.out.get(from..self.places) {
+            Some(out) => out.starts_with(rows::rest(numbers, 1)),
+            None => false,
+        }
     }
 
     // Row 12.
-    fn is_reading(self, row: &[i64], room: &[i32]) -> bool {
-        let sheet = self.sheet;
-        let params = sheet.params;
-        let banks = sheet.banks;
-        let state = self.state;
-        let reading = state.read(params, banks.h(room), banks.g(room), banks.k(room));
-        let verdict = reading.verdict;
-        let told = [
-            reading.period as i64,
-            reading.gain as i64,
-            rows::i64_of(reading.symbols),
-        ];
-        answer::begins(rows::rest(row, 1), &told)
-            && answer::of_frontend(verdict).is(rows::rest(row, 4))
+    fn is_reading(&self, numbers: &[i64]) -> bool {
+        let reading = self.state.read(&self.sheet());
+        let told = match &reading {
+            Ok(r) => [
+                i64::from(r.period),
+                i64::from(r.gain),
+                rows::i64_of(r.symbols),
+            ],
+            Err(_) => [0; 3],
+        };
+        numbers.starts_with(&told) && answer::is(&reading, rows::rest(numbers, 3))
     }
 
     // Row 13: asking.
-    fn is_asked(self, row: &[i64], room: &[i32]) -> bool {
-        let sheet = self.sheet;
-        let params = sheet.params;
-        let banks = sheet.banks;
-        let state = self.state;
-        let asked = retune::ask(state, params, banks.h(room), banks.g(room), banks.k(room));
-        let verdict = asked.verdict;
-        rows::at(row, 1) == rows::i64_of(asked.ticket)
-            && answer::of_retune(verdict).is(rows::rest(row, 2))
+    fn is_asked(&self, numbers: &[i64]) -> bool {
+        let asked = retune::ask(&self.state, &self.sheet());
+        let ticket = rows::i64_of(asked.unwrap_or(0));
+        numbers.starts_with(&[ticket]) && answer::is(&asked, rows::rest(numbers, 1))
     }
 
     // Row 14: a commit, with this ticket.
-    fn committed(self, row: &[i64], room: &[i32]) -> Replay {
-        let sheet = self.sheet;
-        let params = sheet.params;
-        let banks = sheet.banks;
-        let given = self.state;
-        let ticket = rows::u64_of(rows::at(row, 1));
-        let done = retune::commit(
-            given,
-            ticket,
-            params,
-            banks.h(room),
-            banks.g(room),
-            banks.k(room),
-        );
-        let verdict = done.verdict;
-        let state = done.state;
-        let mut next = self;
-        next.state = state;
-        next.counted(answer::of_retune(verdict).is(rows::rest(row, 2)))
+    fn is_committed(&mut self, numbers: &[i64]) -> bool {
+        let ticket = rows::at(numbers, 0).cast_unsigned();
+        let sheet = self.banks.sheet(self.params);
+        let done = retune::commit(&mut self.state, ticket, &sheet);
+        answer::is(&done, rows::rest(numbers, 1))
     }
+}
 
-    // Whether a row that leaves all as it is has the answer. No call answers a row of another kind.
-    fn is_answered(self, row: &[i64], room: &[i32], out: &[i64]) -> bool {
-        let kind = rows::at(row, 0);
-        if kind == 4 {
-            return self.is_judged(row, room);
+impl Replay for Calls {
+    // No call answers a row of an unknown kind.
+    fn take(&mut self, row: &[i64]) -> Option<bool> {
+        let Some((kind, numbers)) = row.split_first() else {
+            return Some(false);
+        };
+        match *kind {
+            0 => return self.keep_fields(numbers),
+            1 => self.banks.keep(Bank::H, numbers),
+            2 => self.banks.keep(Bank::G, numbers),
+            3 => self.banks.keep(Bank::K, numbers),
+            4 => return Some(self.is_judged(numbers)),
+            5 => return Some(self.is_offset(numbers)),
+            6 => self.state = states::of_numbers(numbers),
+            7 => self.keep_values(numbers),
+            8 => return Some(self.is_started(numbers)),
+            9 => return Some(states::is(&self.state, numbers)),
+            10 => return Some(self.is_processed(numbers)),
+            11 => return Some(self.is_output(numbers)),
+            12 => return Some(self.is_reading(numbers)),
+            13 => return Some(self.is_asked(numbers)),
+            14 => return Some(self.is_committed(numbers)),
+            _ => return Some(false),
         }
-        if kind == 5 {
-            return self.is_offset(row, room);
-        }
-        if kind == 9 {
-            return states::is(self.state, rows::rest(row, 1));
-        }
-        if kind == 11 {
-            return self.is_output(row, out);
-        }
-        if kind == 12 {
-            return self.is_reading(row, room);
-        }
-        if kind == 13 {
-            return self.is_asked(row, room);
-        }
-        false
-    }
-
-    // With the call of a row and its answer.
-    fn called(self, row: &[i64], room: &[i32], values: &[i16], out: &mut [i64]) -> Replay {
-        let kind = rows::at(row, 0);
-        if kind == 8 {
-            return self.started(row, room);
-        }
-        if kind == 10 {
-            let given = arith::least(self.values, values.len());
-            let places = arith::least(rows::u64_of(rows::at(row, 1)) as usize, out.len());
-            return self.processed(row, room, &values[0..given], &mut out[0..places]);
-        }
-        if kind == 14 {
-            return self.committed(row, room);
-        }
-        self.counted(self.is_answered(row, room, &*out))
-    }
-
-    // Row 0: the fields of a sheet. Where these are no sheet's, it is an answer that differs.
-    fn with_fields(self, fields: &[i64]) -> Replay {
-        match places::read_sheet(fields) {
-            ReadSheet::Sheet(params) => {
-                let sheet = self.sheet;
-                let mut next = self;
-                next.sheet = sheet.with_params(params);
-                next
-            }
-            ReadSheet::Refused(_) => self.counted(false),
-        }
-    }
-
-    // With a row.
-    fn with_row(
-        self,
-        row: &[i64],
-        room: &mut [i32],
-        values: &mut [i16],
-        out: &mut [i64],
-    ) -> Replay {
-        let kind = rows::at(row, 0);
-        let sheet = self.sheet;
-        let mut next = self;
-        if kind == 0 {
-            return self.with_fields(rows::rest(row, 1));
-        }
-        if 0 < kind && kind < 4 {
-            next.sheet = sheet.with_bank(kind, rows::rest(row, 1), room);
-            return next;
-        }
-        if kind == 6 {
-            next.state = states::of_numbers(rows::rest(row, 1));
-            return next;
-        }
-        if kind == 7 {
-            next.values = keep_values(rows::rest(row, 1), values);
-            return next;
-        }
-        self.called(row, &*room, &*values, out)
-    }
-
-    // With one more row, of so many numbers. Where these are more than it has places for, it is an answer that differs.
-    pub(crate) fn with(
-        self,
-        row: &[i64],
-        numbers: usize,
-        room: &mut [i32],
-        values: &mut [i16],
-        out: &mut [i64],
-    ) -> Replay {
-        if row.len() < numbers {
-            return self.counted(false);
-        }
-        self.with_row(&row[0..numbers], room, values, out)
+        None
     }
 }

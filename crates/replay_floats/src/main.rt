@@ -7,57 +7,16 @@
 mod answers;
 mod calls;
 
-use calls::Replay;
-use rows::{Cursor, Tally};
+use calls::Floats;
+use rows::Report;
 use std::io;
-use std::io::Read;
-
-#[derive(Clone, Copy)]
-struct Progress {
-    cursor: Cursor,
-    replay: Replay,
-}
-
-// The rows of one piece of the input.
-fn piece(before: Progress, bytes: &[u8], row: &mut [i64], room: &mut [i32]) -> Progress {
-    let mut cursor = before.cursor.in_next_piece();
-    let mut replay = before.replay;
-    while cursor.at < bytes.len() {
-        cursor = cursor.row(bytes, row);
-        if cursor.ended {
-            replay = replay.with(&*row, cursor.column, room);
-        }
-    }
-    Progress { cursor, replay }
-}
-
-fn report(rt: &impl Print, t: Tally) -> io::Result<()> {
-    let rows = t.rows;
-    let wrong = t.wrong;
-    print!(rt; "{rows} answers on floats compared, {wrong} differ")?;
-    if 0 < wrong {
-        let first = t.first;
-        print!(rt; ", the first is answer {first}")?;
-    }
-    println!(rt)
-}
 
 fn main(rt: HostRuntime) -> io::Result<()> {
-    let mut bytes = [0u8; 65536];
-    let mut row = [0i64; 8192];
-    let mut room = [0i32; 24576];
-    let mut progress = Progress {
-        cursor: Cursor::new(),
-        replay: Replay::new(),
+    let tally = rows::run(&mut rt.stdin(), &mut [0; 8192], &mut Floats::new())?;
+    let report = Report {
+        tally,
+        of: "on floats",
+        first: "is answer",
     };
-    let mut stdin = rt.stdin();
-    for _ in 0..u64::MAX {
-        let n = stdin.read(&mut bytes)?;
-        if n == 0 {
-            break;
-        }
-        progress = piece(progress, &bytes[..n], &mut row, &mut room);
-    }
-    let replay = progress.replay;
-    report(&rt, replay.tally)
+    println!(rt; "{report}")
 }

@@ -1,2 +1,2 @@
 -- The laws that the proofs of the functions cite, and those on lists of calls.
-pub mod Verdicts
+pub mod Answers

@@ -1,14 +1,13 @@
 -- Retuning a state: asking whether a new sheet may be put into it, and committing it. The held sheet alone changes.
 -- (RULES 4.4, 4.5. A number before a definition is that of the refusal it decides.)
-use Rattle.std.specs.Prelude.{ℕ, cond, eqb}
+use Rattle.std.specs.Prelude.{ℕ, cond, eqb, Result, Ok, Err}
 use mathlib.Core.List.{List, [], ◌∷◌, ◌++◌, flatten}
 use Rattle.params.specs.declared.Params.{Params}
-use Rattle.params.specs.Refusal.{Refusal, refusal, unless, first_of}
+use Rattle.params.specs.Refusal.{Refusal, refusal, nothing, answer_refusal, unless, first_of}
 use Rattle.params.specs.Judge.{Sheet, faults}
 use Rattle.state.specs.declared.Frontend.{Frontend}
 use Rattle.state.specs.Check.{good_state}
-use Rattle.retune.specs.declared.Asked.{Asked}
-use Rattle.retune.specs.declared.Committed.{Committed}
+use Rattle.retune.specs.declared.RetuneError.{RetuneError}
 use Rattle.retune.specs.Refusal.{retune_refusal}
 
 -- ---- what is refused
@@ -44,8 +43,9 @@ ask_of s f =
     record { refused = r; ticket = cond (eqb r.number 0) f.registers.symbols 0 }
 
 -- What the code's answer says in these terms.
-abbrev pub asked : Asked → Ask
-asked a = record { refused = retune_refusal a.verdict; ticket = a.ticket }
+abbrev pub asked : Result ℕ RetuneError → Ask
+asked (Ok ticket) = record { refused = nothing; ticket = ticket }
+asked (Err e) = record { refused = retune_refusal e; ticket = 0 }
 
 -- ---- committing
 
@@ -72,5 +72,6 @@ commit_of s ticket f =
     let r : Refusal = first_of (commit_faults s ticket f) in
     record { refused = r; state = cond (eqb r.number 0) (retuned s.params f) f }
 
-abbrev pub committed : Committed → Commit
-committed a = record { refused = retune_refusal a.verdict; state = a.state }
+-- What the code's answer says in these terms, with the state that it leaves.
+abbrev pub committed : Result Unit RetuneError → Frontend → Commit
+committed a f = record { refused = answer_refusal retune_refusal a; state = f }

@@ -1,3 +1,3 @@
--- Laws of the parts of a list and of reading a row.
-pub mod Parts
+-- Laws of reading a row, and of the rows of an input.
 mod Reading
+mod WholeRows

@@ -1,2 +1,3 @@
--- How the replay programs read numbers and rows, and what their counts mean.
+-- How the replay programs read numbers and rows, and what they count.
 pub mod Rows
+pub mod Program

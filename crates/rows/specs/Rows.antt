@@ -1,5 +1,5 @@
 -- Numbers and rows as text, and the counts of a replay.
-use Rattle.std.specs.Prelude.{ℕ, ◌+◌, ◌-◌, ◌*◌, ◌%◌, ◌^◌, ◌≤◌, min, max, Bool, true, false, cond, ◌||◌, List, [], ◌∷◌, drop, ℤ, pos, negsuc, ◌-ℤ◌, ◌==◌, nat_lt, slice_set}
+use Rattle.std.specs.Prelude.{ℕ, None, Some, ◌+◌, ◌-◌, ◌*◌, ◌%◌, ◌^◌, ◌≤◌, min, max, Bool, true, false, cond, ◌||◌, List, [], ◌∷◌, drop, ℤ, pos, negsuc, ◌-ℤ◌, ◌==◌, nat_lt, slice_set}
 use Rattle.rows.specs.declared.Number.{Number}
 use Rattle.rows.specs.declared.Cursor.{Cursor}
 use Rattle.rows.specs.declared.Tally.{Tally}
@@ -76,12 +76,12 @@ pub record Advanced (before : Cursor) (n : ℕ) (after : Cursor) : Type 0 where
 
 -- Nothing compared yet.
 abbrev pub none_counted : Tally
-none_counted = record { rows = 0; wrong = 0; first = 0 }
+none_counted = record { rows = 0; wrong = 0; first = None }
 
 -- One answer more, modulo 2^64, which no file reaches: the first that differs leaves its row, counted from 1.
 unfoldable pub one_counted : Tally → Bool → Tally
 one_counted t same =
     let rows : ℕ = (t.rows + 1) % 2 ^ 64 in
     cond same (record { rows = rows; wrong = t.wrong; first = t.first })
-    (cond (t.wrong == 0) (record { rows = rows; wrong = 1; first = rows })
+    (cond (t.wrong == 0) (record { rows = rows; wrong = 1; first = Some rows })
     (record { rows = rows; wrong = (t.wrong + 1) % 2 ^ 64; first = t.first }))

@@ -4,15 +4,14 @@ use Rattle.std.specs.Prelude.{ℕ, ◌+◌, ◌/◌, ◌%◌, min, Bool, ◌&&�
 use mathlib.Core.List.{List, [], ◌∷◌, ◌++◌, flatten}
 use Rattle.std.specs.Int.Signed.{le_z, lt_z}
 use Rattle.params.specs.declared.Params.{Params}
-use Rattle.params.specs.Refusal.{Refusal, refusal, nothing, error_refusal, unless}
+use Rattle.params.specs.Refusal.{Refusal, refusal, error_refusal, unless}
 use Rattle.params.specs.Judge.{Sheet, faults}
 use Rattle.arith.specs.Arith.{within}
-use Rattle.fields.specs.Fields.{no_fields, same_fields}
+use Rattle.fields.specs.Fields.{same_fields}
 use Rattle.registers.specs.declared.Registers.{Registers}
 use Rattle.registers.specs.Correct.{integrator_end}
 use Rattle.state.specs.declared.Frontend.{Frontend}
-use Rattle.state.specs.declared.Position.{Position}
-use Rattle.state.specs.declared.FrontendVerdict.{FrontendVerdict}
+use Rattle.state.specs.declared.FrontendError.{FrontendError}
 use Rattle.state.specs.Start.{ring_places}
 
 -- The state is good under a sheet: positions within the line and the queue, time and registers within their bounds, and counts that agree. What sheet it
@@ -51,24 +50,10 @@ size_faults f values places =
 unfoldable pub block_faults : Sheet → Frontend → ℕ → ℕ → List Refusal
 block_faults s f values places = state_faults s f ++ size_faults f values places
 
--- The number of each case of a call's answer.
-abbrev pub frontend_refusal : FrontendVerdict → Refusal
-frontend_refusal FrontendVerdict.Accepted = nothing
-frontend_refusal (FrontendVerdict.Params e) = error_refusal e
-frontend_refusal FrontendVerdict.State = refusal 9 []
-frontend_refusal FrontendVerdict.OddInput = refusal 10 []
-frontend_refusal FrontendVerdict.ShortOutput = refusal 11 []
-frontend_refusal FrontendVerdict.TooManySamples = refusal 12 []
-
--- A state of which only the registers and positions count.
-abbrev pub outline : Registers → Position → Frontend
-outline r w = record {
-  params = no_fields;
-  registers = r;
-  line = [];
-  head = w.head;
-  pending = [];
-  oldest = w.oldest;
-  waiting = w.waiting;
-  samples = w.samples;
-}
+-- The number of each refusal of a call.
+abbrev pub frontend_refusal : FrontendError → Refusal
+frontend_refusal (FrontendError.Params e) = error_refusal e
+frontend_refusal FrontendError.State = refusal 9 []
+frontend_refusal FrontendError.OddInput = refusal 10 []
+frontend_refusal FrontendError.ShortOutput = refusal 11 []
+frontend_refusal FrontendError.TooManySamples = refusal 12 []

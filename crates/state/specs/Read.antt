@@ -1,11 +1,12 @@
 -- Reading a state: period, gain and symbol count.
 -- (RULES 4.3)
-use Rattle.std.specs.Prelude.{ℕ, cond, eqb}
+use Rattle.std.specs.Prelude.{ℕ, cond, eqb, Result, Ok, Err}
 use Rattle.params.specs.Refusal.{Refusal, nothing, first_of}
 use Rattle.params.specs.Judge.{Sheet}
 use Rattle.registers.specs.Step.{gain_of}
 use Rattle.state.specs.declared.Frontend.{Frontend}
 use Rattle.state.specs.declared.Reading.{Reading}
+use Rattle.state.specs.declared.FrontendError.{FrontendError}
 use Rattle.state.specs.Check.{state_faults, frontend_refusal}
 
 pub record Read : Type 0 where
@@ -22,5 +23,7 @@ read_of s f =
     (record { refused = nothing; period = f.registers.period; gain = gain_of f.registers; symbols = f.registers.symbols })
     (record { refused = r; period = 0; gain = 0; symbols = 0 })
 
-abbrev pub reading : Reading → Read
-reading a = record { refused = frontend_refusal a.verdict; period = a.period; gain = a.gain; symbols = a.symbols }
+-- What the code's answer says in these terms.
+abbrev pub reading : Result Reading FrontendError → Read
+reading (Ok a) = record { refused = nothing; period = a.period; gain = a.gain; symbols = a.symbols }
+reading (Err e) = record { refused = frontend_refusal e; period = 0; gain = 0; symbols = 0 }

@@ -1,13 +1,13 @@
 -- The state before the first sample, and starting.
-use Rattle.std.specs.Prelude.{ℕ, cond, eqb, replicate, pos}
+use Rattle.std.specs.Prelude.{ℕ, cond, eqb, replicate, pos, Result, Ok, Err}
 use Rattle.params.specs.declared.Params.{Params}
-use Rattle.params.specs.Refusal.{Refusal, verdict_refusal}
+use Rattle.params.specs.declared.ParamError.{ParamError}
+use Rattle.params.specs.Refusal.{Refusal, nothing, error_refusal}
 use Rattle.params.specs.Judge.{Sheet, judged}
 use Rattle.fields.specs.Fields.{no_fields}
 use Rattle.registers.specs.declared.Pending.{Pending}
 use Rattle.state.specs.declared.Pair.{Pair}
 use Rattle.state.specs.declared.Frontend.{Frontend}
-use Rattle.state.specs.declared.Started.{Started}
 
 abbrev pub no_pair : Pair
 no_pair = record { i = pos 0; q = pos 0 }
@@ -47,5 +47,6 @@ start_of s =
     record { refused = r; state = fresh (cond (eqb r.number 0) s.params no_fields) }
 
 -- What the code's answer says in these terms.
-abbrev pub started : Started → Start
-started a = record { refused = verdict_refusal a.verdict; state = a.state }
+abbrev pub started : Result Frontend ParamError → Start
+started (Ok f) = record { refused = nothing; state = f }
+started (Err e) = record { refused = error_refusal e; state = fresh no_fields }

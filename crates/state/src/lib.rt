@@ -2,6 +2,7 @@
 #![tactic(auto)]
 
 mod check;
+mod good;
 mod read;
 mod start;
 
@@ -9,7 +10,7 @@ ghost use Rattle.std.specs.Prelude.{◌≡◌};
 ghost use Rattle.state.specs.Check.{frontend_refusal};
 
 pub use check::pairs_taken;
-use params::{ParamError, Params, Verdict};
+use params::{ParamError, Params};
 use registers::{Pending, Registers};
 
 // Places of the ring in which errors wait, at every delay: as many as the longest delay takes.
@@ -28,10 +29,10 @@ pub struct Frontend {
     // The fields of the held sheet: that of the start, or the one that was committed last.
     pub params: Params,
     pub registers: Registers,
-    // The last `taps` mixed samples, and the newest's position, which falls modulo taps (RULES 3.4).
+    // The last `taps` mixed samples, and the newest's position, which falls modulo taps (RULES 3.4). Room is kept for the most: there is no heap.
     pub line: [Pair; 64],
     pub head: usize,
-    // The waiting errors, a ring: the oldest's position and how many wait, at most the sheet's delay.
+    // The waiting errors, a ring in fixed memory for the same reason: the oldest's position and how many wait, at most the sheet's delay.
     pub pending: [Pending; RING_PLACES],
     pub oldest: usize,
     pub waiting: usize,
@@ -39,19 +40,9 @@ pub struct Frontend {
     pub samples: u64,
 }
 
-// Where a state stands: in the line, in the queue of errors and in the recording.
-#[derive(Clone, Copy)]
-pub struct Position {
-    pub head: usize,
-    pub oldest: usize,
-    pub waiting: usize,
-    pub samples: u64,
-}
-
-// What a call on a state answers beside its result (RULES 1.4, 4.1).
-#[derive(Clone, Copy)]
-pub enum FrontendVerdict {
-    Accepted,
+// Why a call on a state is refused (RULES 1.4, 4.1).
+#[derive(Clone, Copy, PartialEq, Eq, Debug)]
+pub enum FrontendError {
     Params(ParamError),
     State,
     OddInput,
@@ -59,33 +50,34 @@ pub enum FrontendVerdict {
     TooManySamples,
 }
 
-// Its number, since text and C take nothing else of it; 0 where nothing is refused.
-impl FrontendVerdict {
+impl From<ParamError> for FrontendError {
+    ghost use Rattle.state.specs.declared.FrontendError.{FrontendError};
+
+    ghost from_gives = { λ e f. f ≡ FrontendError.Params e };
+
+    fn from(e: ParamError) -> FrontendError {
+        FrontendError::Params(e)
+    }
+}
+
+impl FrontendError {
+    // Its number, since text and C take nothing else of it.
     pub fn number(self) -> u32
         ensures { result ≡ (frontend_refusal self).number }
     {
         match self {
-            FrontendVerdict::Accepted => 0,
-            FrontendVerdict::Params(e) => e.number(),
-            FrontendVerdict::State => 9,
-            FrontendVerdict::OddInput => 10,
-            FrontendVerdict::ShortOutput => 11,
-            FrontendVerdict::TooManySamples => 12,
+            FrontendError::Params(e) => e.number(),
+            FrontendError::State => 9,
+            FrontendError::OddInput => 10,
+            FrontendError::ShortOutput => 11,
+            FrontendError::TooManySamples => 12,
         }
     }
 }
 
-// What starting answers: a fresh state, or one of zeros where the sheet is refused.
-#[derive(Clone, Copy)]
-pub struct Started {
-    pub verdict: Verdict,
-    pub state: Frontend,
-}
-
-// What reading a state answers; zeros where it is refused.
+// What is read of a state.
 #[derive(Clone, Copy)]
 pub struct Reading {
-    pub verdict: FrontendVerdict,
     pub period: u32,
     pub gain: u16,
     pub symbols: u64,

@@ -1,19 +1,17 @@
 // Starting: the state before the first sample.
 ghost use Rattle.std.specs.Prelude.{◌≡◌};
-ghost use Rattle.params.specs.Judge.{sheet_of};
 ghost use Rattle.state.specs.Start.{fresh, start_of, started};
 
-use crate::{Frontend, Pair, RING_PLACES, Started};
-use params::{Params, Verdict};
+use crate::{Frontend, Pair, RING_PLACES};
+use params::{ParamError, Params, Sheet};
 use registers::{Pending, Registers};
 
 impl Frontend {
     // The state before the first sample, under a sheet of these fields. Of no fields, `fields::none()`, it is zeros throughout.
+    #[tactic(auto, unfolding(crate::specs::Start::fresh))]
     pub fn fresh(p: Params) -> Frontend
         ensures { result ≡ fresh p }
     {
-        let pair = Pair { i: 0, q: 0 };
-        let pending = Pending { e: 0, err: 0 };
         let registers = Registers {
             nco: 0,
             t_acc: 0,
@@ -25,9 +23,9 @@ impl Frontend {
         Frontend {
             params: p,
             registers,
-            line: [pair; 64],
+            line: [Pair { i: 0, q: 0 }; 64],
             head: 0,
-            pending: [pending; RING_PLACES],
+            pending: [Pending { e: 0, err: 0 }; RING_PLACES],
             oldest: 0,
             waiting: 0,
             samples: 0,
@@ -35,19 +33,11 @@ impl Frontend {
     }
 
     // Starting (RULES 3.1).
-    pub fn new(p: Params, h: &[i32], g: &[i32], k: &[i32]) -> Started
-        ensures { started result ≡ start_of (sheet_of p h.now g.now k.now) }
+    #[tactic(auto, using(crate::proofs::Answers::refused_start, crate::proofs::Answers::accepted_start))]
+    pub fn new(sheet: &Sheet<'_>) -> Result<Frontend, ParamError>
+        ensures { started result ≡ start_of sheet.now }
     {
-        let verdict = p.validate(h, g, k);
-        if let Verdict::Refused(e) = verdict {
-            return Started {
-                verdict: Verdict::Refused(e),
-                state: Frontend::fresh(fields::none()),
-            };
-        }
-        Started {
-            verdict: Verdict::Accepted,
-            state: Frontend::fresh(p),
-        }
+        sheet.validate()?;
+        Ok(Frontend::fresh(sheet.params))
     }
 }

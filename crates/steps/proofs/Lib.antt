@@ -1,2 +1,2 @@
--- The law that the proofs of this crate cite: what the code's decimals are.
-pub mod Decimals
+-- The law that the proofs of this crate cite: what the code's literals are.
+pub mod Literals

@@ -1,5 +1,5 @@
 // What a symbol is made of, from the filters' sums to its errors and its clips (RULES 3.8, 3.9).
-ghost use Rattle.std.specs.Prelude.{◌≡◌, ◌-◌, min};
+ghost use Rattle.std.specs.Prelude.{◌≡◌, ◌-◌, ◌+ℤ◌, ◌*ℤ◌, min};
 ghost use Rattle.symbol.specs.Make.{fitted, output_of, amplified, quantised, timing_error, gain_error, symbol_from};
 
 use crate::{Output, Sums, Symbol};
@@ -16,14 +16,14 @@ struct Fitted {
 fn clip(i: i64, q: i64) -> Fitted
     ensures { result ≡ fitted i q }
 {
-    let a = arith::sat16(i);
-    let b = arith::sat16(q);
+    let i = arith::sat16(i);
+    let q = arith::sat16(q);
     Fitted {
         output: Output {
-            i: a.value,
-            q: b.value,
+            i: i.value,
+            q: q.value,
         },
-        clips: a.changed as u8 + b.changed as u8,
+        clips: i.changed as u8 + q.changed as u8,
     }
 }
 
@@ -44,6 +44,7 @@ fn fit(i: i64, q: i64) -> Fitted
 }
 
 // A filter's sums as an output.
+#[tactic(auto, unfolding(crate::specs::Make::output_of))]
 fn output_of(s: Sums) -> Fitted
     ensures { result ≡ output_of s }
 {
@@ -51,6 +52,7 @@ fn output_of(s: Sums) -> Fitted
 }
 
 // An output times the gain.
+#[tactic(auto, unfolding(crate::specs::Make::amplified))]
 fn amplify(gain: u16, x: Output) -> Fitted
     ensures { result ≡ amplified gain x }
 {
@@ -64,13 +66,7 @@ fn amplify(gain: u16, x: Output) -> Fitted
 fn below_sign(bits: u8) -> u32
     ensures { result ≡ min (bits - 1) 15 }
 {
-    if bits < 1 {
-        return 0;
-    }
-    if 16 < bits {
-        return 15;
-    }
-    bits as u32 - 1
+    bits.saturating_sub(1).min(15) as u32
 }
 
 // A component at the width of the output.
@@ -85,12 +81,20 @@ fn quantise(p: Params, v: i16) -> i16
     ) as i16
 }
 
+impl Output {
+    // The product of two outputs, over both components.
+    fn dot(self, other: Output) -> i64
+        ensures { result ≡ self.i *ℤ other.i +ℤ self.q *ℤ other.q }
+    {
+        (self.i as i64) * (other.i as i64) + (self.q as i64) * (other.q as i64)
+    }
+}
+
 fn timing_error(p: Params, z: Output, dz: Output) -> i32
     ensures { result ≡ timing_error p z dz }
 {
-    let product = (z.i as i64) * (dz.i as i64) + (z.q as i64) * (dz.q as i64);
     arith::clamp(
-        arith::shift_right(product, p.ted_shift as u32),
+        arith::shift_right(z.dot(dz), p.ted_shift as u32),
         -8388607,
         8388607,
     ) as i32
@@ -99,12 +103,12 @@ fn timing_error(p: Params, z: Output, dz: Output) -> i32
 fn agc_error(p: Params, zk: Output) -> i32
     ensures { result ≡ gain_error p zk }
 {
-    let power = (zk.i as i64) * (zk.i as i64) + (zk.q as i64) * (zk.q as i64);
-    arith::wrap_i32(p.agc_target as i64 - (power >> 12))
+    arith::wrap_i32(p.agc_target as i64 - (zk.dot(zk) >> 12))
 }
 
 impl Symbol {
     // The symbol of this gain and period, at this sample and phase, of the sums of h, g and k.
+    #[tactic(auto, unfolding(crate::specs::Make::symbol_from))]
     pub fn make(
         p: Params,
         gain: u16,
@@ -115,42 +119,30 @@ impl Symbol {
     ) -> Symbol
         ensures { result ≡ symbol_from p gain period sample phase sums }
     {
-        let y_fit = output_of(sums[0]);
-        let dy_fit = output_of(sums[1]);
-        let yk_fit = output_of(sums[2]);
-        let y = y_fit.output;
-        let dy = dy_fit.output;
-        let yk = yk_fit.output;
-        let z_fit = amplify(gain, y);
-        let dz_fit = amplify(gain, dy);
-        let zk_fit = amplify(gain, yk);
-        let z = z_fit.output;
-        let dz = dz_fit.output;
-        let zk = zk_fit.output;
-        let q = Output {
-            i: quantise(p, zk.i),
-            q: quantise(p, zk.q),
-        };
+        let y = output_of(sums[0]);
+        let dy = output_of(sums[1]);
+        let yk = output_of(sums[2]);
+        let z = amplify(gain, y.output);
+        let dz = amplify(gain, dy.output);
+        let zk = amplify(gain, yk.output);
         Symbol {
             sample,
             phase,
-            y,
-            dy,
-            yk,
+            y: y.output,
+            dy: dy.output,
+            yk: yk.output,
             gain,
             period,
-            z,
-            dz,
-            zk,
-            q,
-            e: timing_error(p, z, dz),
-            err: agc_error(p, zk),
-            clips: y_fit.clips
-                + dy_fit.clips
-                + yk_fit.clips
-                + z_fit.clips
-                + dz_fit.clips
-                + zk_fit.clips,
+            z: z.output,
+            dz: dz.output,
+            zk: zk.output,
+            q: Output {
+                i: quantise(p, zk.output.i),
+                q: quantise(p, zk.output.q),
+            },
+            e: timing_error(p, z.output, dz.output),
+            err: agc_error(p, zk.output),
+            clips: y.clips + dy.clips + yk.clips + z.clips + dz.clips + zk.clips,
         }
     }
 }

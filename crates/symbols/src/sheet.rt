@@ -1,76 +1,70 @@
 // The first 193 lines: the sheet's 18 fields, and 64 rows of each bank.
 use crate::input::Input;
 use crate::stop::Stop;
-use kinds::I32;
-use params::Params;
-use places::ReadSheet;
+use kinds::Kind;
+use params::{ParamError, Params, Sheet};
 
 // The rows of a bank.
-const ROWS: u64 = 64;
+const ROWS: usize = 64;
 
-// A sheet as far as it is read, what is behind it in the input, and what stopped the reading.
-#[derive(Clone, Copy)]
+// The sheet's fields with room for its banks, of which rows of `taps` numbers take the front.
+#[derive(Drop)]
 pub(crate) struct Head {
-    pub(crate) params: Params,
-    pub(crate) rest: Input,
-    pub(crate) stop: Stop,
+    params: Params,
+    h: [i32; 4096],
+    g: [i32; 4096],
+    k: [i32; 4096],
+}
+
+// Line 1. A row's length rests on the taps, so these are judged at once.
+fn read_params(input: &mut Input) -> Result<Params, Stop> {
+    let mut values = [0i64; 18];
+    input.take(&places::sheet_kinds(), &mut values)?;
+    match places::read_sheet(&values) {
+        Err(e) => Err(Stop::Refused {
+            number: e.number(),
+            line: 1,
+        }),
+        Ok(params) if !params::is_good_taps(params.taps) => Err(Stop::Refused {
+            number: ParamError::Taps.number(),
+            line: 1,
+        }),
+        Ok(params) => Ok(params),
+    }
+}
+
+// A bank, row by row.
+fn read_bank(input: &mut Input, taps: u32, bank: &mut [i32]) -> Result<(), Stop> {
+    let taps = recording::row_length(taps);
+    let kinds = [Kind::I32; 64];
+    let mut values = [0i64; 64];
+    let mut from: usize = 0;
+    for _ in 0..ROWS {
+        input.take(&kinds[..taps], &mut values)?;
+        from = recording::keep_row(&values[..taps], bank, from);
+    }
+    Ok(())
 }
 
 impl Head {
-    // Line 1. A row's length rests on the taps, so these are judged at once.
-    pub(crate) fn of_line(input: Input, bytes: &mut [u8]) -> Head {
-        let mut values = [0i64; 18];
-        let types = places::sheet_kinds();
-        let taken = input.take(1, &types, &mut values, bytes);
-        let rest = taken.rest;
-        let stop = taken.stop;
-        let params = fields::none();
-        if !stop.is_no() {
-            return Head { params, rest, stop };
-        }
-        match places::read_sheet(&values) {
-            ReadSheet::Sheet(params) => Head::judged(params, rest),
-            ReadSheet::Refused(number) => Head {
-                params,
-                rest,
-                stop: Stop::Refused { number, line: 1 },
-            },
-        }
+    pub(crate) fn read(input: &mut Input) -> Result<Head, Stop> {
+        let params = read_params(input)?;
+        let mut h = [0i32; 4096];
+        let mut g = [0i32; 4096];
+        let mut k = [0i32; 4096];
+        read_bank(input, params.taps, &mut h)?;
+        read_bank(input, params.taps, &mut g)?;
+        read_bank(input, params.taps, &mut k)?;
+        Ok(Head { params, h, g, k })
     }
 
-    fn judged(params: Params, rest: Input) -> Head {
-        if !params::is_good_taps(params.taps) {
-            return Head {
-                params,
-                rest,
-                stop: Stop::Refused { number: 1, line: 1 },
-            };
+    pub(crate) fn sheet(&self) -> Sheet<'_> {
+        let long = recording::bank_length(self.params.taps);
+        Sheet {
+            params: self.params,
+            h: &self.h[..long],
+            g: &self.g[..long],
+            k: &self.k[..long],
         }
-        Head {
-            params,
-            rest,
-            stop: Stop::No,
-        }
-    }
-
-    // With a bank, whose rows begin at this line.
-    pub(crate) fn with_bank(self, first: u64, room: &mut [i32], bytes: &mut [u8]) -> Head {
-        let params = self.params;
-        let mut rest = self.rest;
-        let mut stop = self.stop;
-        let mut values = [0i64; 64];
-        let kinds = [I32; 64];
-        let taps = recording::row_length(params.taps);
-        let mut from: usize = 0;
-        let mut row: u64 = 0;
-        while row < ROWS && stop.is_no() {
-            let line = std::num::wrapping_add_u64(first, row);
-            let taken = rest.take(line, &kinds[0..taps], &mut values, bytes);
-            rest = taken.rest;
-            stop = taken.stop;
-            from = recording::keep_row(&values[0..taps], room, from);
-            row += 1;
-        }
-        Head { params, rest, stop }
     }
 }

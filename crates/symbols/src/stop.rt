@@ -1,8 +1,9 @@
 // Why the program stops.
-#[derive(Clone, Copy)]
+use params::ParamError;
+use state::FrontendError;
+
+#[derive(Clone, Copy, PartialEq, Eq, Debug)]
 pub(crate) enum Stop {
-    // Nothing stops it so far.
-    No,
     // The input is at its end, and all of it was taken.
     End,
     // It is refused, at a line or, where no line is to blame, at 0.
@@ -11,11 +12,20 @@ pub(crate) enum Stop {
     Failed,
 }
 
-impl Stop {
-    pub(crate) fn is_no(self) -> bool {
-        match self {
-            Stop::No => true,
-            _ => false,
+impl From<ParamError> for Stop {
+    fn from(e: ParamError) -> Stop {
+        Stop::Refused {
+            number: e.number(),
+            line: 0,
+        }
+    }
+}
+
+impl From<FrontendError> for Stop {
+    fn from(e: FrontendError) -> Stop {
+        Stop::Refused {
+            number: e.number(),
+            line: 0,
         }
     }
 }

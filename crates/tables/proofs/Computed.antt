@@ -1,10 +1,10 @@
 -- One test that antt computes over all numbers below a bound, and the fact at each of them that follows from it.
 use Prim.Native.Nat.{ℕ, zero, suc, ◌<◌}
-use mathlib.Core.Path.{◌≡◌, ap, subst}
+use mathlib.Core.Path.{◌≡◌}
 use mathlib.Core.Bool.{Bool, true, false, ◌&&◌}
-use native.Mathlib.Decide.{dec_lt}
 use native.Mathlib.Omega.{arith}
-use lib.Dec.{T, eqb, eqb→eq}
+use Rattle.std.proofs.lemmas.Int.{ints}
+use lib.Dec.{T, eqb}
 use lib.IntN.{ℤ, pos, negsuc}
 use mir.Facts.{and_yes}
 
@@ -16,23 +16,13 @@ eq_z (negsuc a) (pos b) = false
 eq_z (negsuc a) (negsuc b) = eqb a b
 
 pub eq_z→eq : (a b : ℤ) → T (eq_z a b) → a ≡ b
-eq_z→eq (pos a) (pos b) t = ap pos (eqb→eq a b t)
-eq_z→eq (pos a) (negsuc b) t = absurd t
-eq_z→eq (negsuc a) (pos b) t = absurd t
-eq_z→eq (negsuc a) (negsuc b) t = ap negsuc (eqb→eq a b t)
+eq_z→eq a b t = grind (arith, ints)
 
 -- the test passes at every number below n
 abbrev pub below : (ℕ → Bool) → ℕ → Bool
 below f zero = true
 below f (suc n) = f n && below f n
 
-last : (Q : ℕ → Type 0) (k n : ℕ) → k < suc n → (k < n → Q k) → Q n → Q k
-last Q k n h f q = go (dec_lt k n)
-  where
-    go : Dec (k < n) → Q k
-    go (yes l) = f l
-    go (no l) = let e : n ≡ k = omega arith in subst Q e q
-
 pub below_at : (f : ℕ → Bool) (n : ℕ) → T (below f n) → (k : ℕ) → k < n → T (f k)
 below_at f zero t k h = absurd (omega arith)
-below_at f (suc n) t k h = last (λ j. T (f j)) k n h (λ l. below_at f n (and_yes (f n) (below f n) t).1 k l) (and_yes (f n) (below f n) t).0
+below_at f (suc n) t k h = let both = and_yes (f n) (below f n) t in let before = below_at f n both.1 k in grind arith

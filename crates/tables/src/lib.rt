@@ -91,6 +91,7 @@ const COS_TABLE: [i16; 1024] = [
 ];
 
 // The whole wheel, by value: a caller that reads it often keeps it beside itself, since each mention of the constant makes it anew.
+#[tactic(auto, unfolding(crate::specs::Wheel::quarter, crate::specs::Wheel::wheel, crate::specs::Wheel::entries, crate::specs::Wheel::wheel_table))]
 pub fn cos_table() -> [i16; 1024]
     ensures { result ≡ wheel_table }
 {

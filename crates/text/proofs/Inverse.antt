@@ -8,18 +8,20 @@ use native.Mathlib.Omega.{arith}
 use lib.Dec.{ltb, eqb}
 use lib.IntN.{ℤ, pos, negsuc}
 use borrow.Author.Tests.{le-ltb, ne_eqb, eqb-true, eqb-false, ltb-false}
-use Rattle.text.specs.declared.Field.{Field}
-use Rattle.text.specs.Fields.{Said, none, some, is_digit, digits_after, nothing_after_zero, numeral, plain, negative, field_in, wrong_form, outside, holds}
+use Rattle.std.specs.Prelude.{Option, Some, None, Err}
+use Rattle.kinds.specs.declared.FieldError.{FieldError}
+use Rattle.kinds.specs.declared.FieldError.TheVariants.{Malformed, OutOfRange}
+use Rattle.text.specs.Fields.{is_digit, digits_after, nothing_after_zero, numeral, plain, negative, field_in, wrong_form, outside, holds}
 use Rattle.print.specs.Number.{decimal, text_of}
 use Rattle.text.specs.Inverse.{Within, Inverse}
-use Rattle.print.proofs.Writing as W
+use Rattle.print.proofs.Digits as W
 
 -- ---- what is printed is read
 
 -- One digit behind others.
-abbrev then : ℕ → Said → Said
-then d none = none
-then d (some v) = some (v * 10 + d)
+abbrev then : ℕ → Option ℕ → Option ℕ
+then d None = None
+then d (Some v) = Some (v * 10 + d)
 
 is_digit_lem : (d : ℕ) → d < 10 → is_digit (48 + d) ≡ true
 is_digit_lem d h = rw (le-ltb (48 + d) 48 (omega arith), le-ltb 57 (48 + d) (omega arith)) refl
@@ -32,23 +34,23 @@ digit-behind v d [] h =
 digit-behind v d (b ∷ t) h = go (is_digit b) (digit-behind (v * 10 + (b - 48)) d t h)
   where
     go : (q : Bool) → digits_after (v * 10 + (b - 48)) (t ++ ((48 + d) ∷ [])) ≡ then d (digits_after (v * 10 + (b - 48)) t)
-        → cond q (digits_after (v * 10 + (b - 48)) (t ++ ((48 + d) ∷ []))) none ≡ then d (cond q (digits_after (v * 10 + (b - 48)) t) none)
+        → cond q (digits_after (v * 10 + (b - 48)) (t ++ ((48 + d) ∷ []))) None ≡ then d (cond q (digits_after (v * 10 + (b - 48)) t) None)
     go true e = e
     go false e = refl
 
 -- Here and below k is only more than n, for the recursion.
-reads-digits : (k n : ℕ) → n < k → digits_after 0 (decimal n) ≡ some n
+reads-digits : (k n : ℕ) → n < k → digits_after 0 (decimal n) ≡ Some n
 unfolding digits_after
 reads-digits zero n h = absurd (omega arith)
 reads-digits (suc k) n h = elim (dec_le 10 n) [
   | yes t ↦
       ap (λ (l : List ℕ). digits_after 0 l) (W.more-digits n t)
       ∙ digit-behind 0 (n % 10) (decimal (n / 10)) (omega arith)
-      ∙ ap (λ (w : Said). then (n % 10) w) (reads-digits k (n / 10) (omega arith))
-      ∙ ap some (omega arith)
+      ∙ ap (λ (w : Option ℕ). then (n % 10) w) (reads-digits k (n / 10) (omega arith))
+      ∙ ap Some (omega arith)
   | no t ↦
       let u : n < 10 = omega arith in
-      ap (λ (l : List ℕ). digits_after 0 l) (W.one-digit n u) ∙ digit-behind 0 n [] u ∙ ap some (omega arith)
+      ap (λ (l : List ℕ). digits_after 0 l) (W.one-digit n u) ∙ digit-behind 0 n [] u ∙ ap Some (omega arith)
 ]
 
 -- The first digit, which is 0 only of 0.
@@ -64,7 +66,7 @@ first (suc k) n h = elim (dec_le 10 n) [
   | no t ↦ (n, [], W.one-digit n (omega arith), omega arith, λ (p : 0 < n). p)
 ]
 
-reads-numeral : (n : ℕ) → numeral (decimal n) ≡ some n
+reads-numeral : (n : ℕ) → numeral (decimal n) ≡ Some n
 unfolding numeral
 reads-numeral n = elim (dec_le 1 n) [
   | yes p ↦
@@ -75,7 +77,7 @@ reads-numeral n = elim (dec_le 1 n) [
       ∙ rw (ne_eqb (48 + f.0) 48 e) (ap (λ (l : List ℕ). digits_after 0 l) (sym f.2) ∙ reads-digits (suc n) n (omega arith))
   | no p ↦
       let z : n ≡ 0 = omega arith in
-      ap (λ (m : ℕ). numeral (decimal m)) z ∙ ap (λ (l : List ℕ). numeral l) (W.one-digit 0 (omega arith)) ∙ ap some (sym z)
+      ap (λ (m : ℕ). numeral (decimal m)) z ∙ ap (λ (l : List ℕ). numeral l) (W.one-digit 0 (omega arith)) ∙ ap Some (sym z)
 ]
 
 reads-text : (down up : ℕ) (z : ℤ) → Within down up z → field_in down up (text_of z) ≡ holds z
@@ -85,8 +87,8 @@ reads-text down up (pos n) h =
     let e : (48 + f.0 ≡ 45 → ⊥) = λ (z : 48 + f.0 ≡ 45). omega arith in
     ap (λ (l : List ℕ). field_in down up l) f.2
     ∙ rw (ne_eqb (48 + f.0) 45 e)
-    (ap (λ (l : List ℕ). plain up (numeral l)) (sym f.2) ∙ ap (λ (w : Said). plain up w) (reads-numeral n) ∙ rw (le-ltb up n h) refl)
-reads-text down up (negsuc n) h = ap (λ (w : Said). negative down w) (reads-numeral (suc n))
+    (ap (λ (l : List ℕ). plain up (numeral l)) (sym f.2) ∙ ap (λ (w : Option ℕ). plain up w) (reads-numeral n) ∙ rw (le-ltb up n h) refl)
+reads-text down up (negsuc n) h = ap (λ (w : Option ℕ). negative down w) (reads-numeral (suc n))
     ∙ rw (ne_eqb (suc n) 0 (λ (z : suc n ≡ 0). omega arith), le-ltb down (suc n) h) refl
 
 -- ---- what is read is printed
@@ -106,29 +108,29 @@ one_more v b p l h =
     W.more-digits (v * 10 + (b - 48)) (omega arith) ∙ ap (λ (m : ℕ). decimal m ++ ((48 + (v * 10 + (b - 48)) % 10) ∷ [])) q
     ∙ ap (λ (m : ℕ). decimal v ++ (m ∷ [])) r
 
-prints-digits : (v n : ℕ) (l : List ℕ) → 0 < v → digits_after v l ≡ some n → decimal n ≡ decimal v ++ l
+prints-digits : (v n : ℕ) (l : List ℕ) → 0 < v → digits_after v l ≡ Some n → decimal n ≡ decimal v ++ l
 unfolding digits_after
 prints-digits v n [] p e = let s : v ≡ n = cc in ap decimal (sym s) ∙ sym (append-nil (decimal v))
 prints-digits v n (b ∷ t) p e = go (is_digit b) refl e
-    (λ (q : 0 < v * 10 + (b - 48)) (f : digits_after (v * 10 + (b - 48)) t ≡ some n). prints-digits (v * 10 + (b - 48)) n t q f)
+    (λ (q : 0 < v * 10 + (b - 48)) (f : digits_after (v * 10 + (b - 48)) t ≡ Some n). prints-digits (v * 10 + (b - 48)) n t q f)
   where
-    go : (q : Bool) → is_digit b ≡ q → cond q (digits_after (v * 10 + (b - 48)) t) none ≡ some n
-        → (0 < v * 10 + (b - 48) → digits_after (v * 10 + (b - 48)) t ≡ some n → decimal n ≡ decimal (v * 10 + (b - 48)) ++ t) → decimal n ≡ decimal v ++ (b ∷ t)
+    go : (q : Bool) → is_digit b ≡ q → cond q (digits_after (v * 10 + (b - 48)) t) None ≡ Some n
+        → (0 < v * 10 + (b - 48) → digits_after (v * 10 + (b - 48)) t ≡ Some n → decimal n ≡ decimal (v * 10 + (b - 48)) ++ t) → decimal n ≡ decimal v ++ (b ∷ t)
     go true d f g =
         let r = digit-range b d in
         g (omega arith) f ∙ ap (λ (l : List ℕ). l ++ t) (one_more v b p r.0 r.1) ∙ append_assoc (decimal v) (b ∷ []) t
     go false d f g = absurd (let z : ◌≡◌ {A = ℕ} 0 1 = cc in omega arith)
 
-prints-zero : (n : ℕ) (t : List ℕ) → nothing_after_zero t ≡ some n → decimal n ≡ 48 ∷ t
+prints-zero : (n : ℕ) (t : List ℕ) → nothing_after_zero t ≡ Some n → decimal n ≡ 48 ∷ t
 prints-zero n [] e = let z : 0 ≡ n = cc in ap decimal (sym z) ∙ W.one-digit 0 (omega arith)
 prints-zero n (b ∷ t) e = absurd (let z : ◌≡◌ {A = ℕ} 0 1 = cc in omega arith)
 
-prints-numeral : (l : List ℕ) (n : ℕ) → numeral l ≡ some n → decimal n ≡ l
+prints-numeral : (l : List ℕ) (n : ℕ) → numeral l ≡ Some n → decimal n ≡ l
 unfolding numeral digits_after
 prints-numeral [] n e = absurd (let z : ◌≡◌ {A = ℕ} 0 1 = cc in omega arith)
 prints-numeral (b ∷ t) n e = go (eqb b 48) (is_digit b) refl refl e
   where
-    go : (p q : Bool) → eqb b 48 ≡ p → is_digit b ≡ q → cond p (nothing_after_zero t) (cond q (digits_after (0 * 10 + (b - 48)) t) none) ≡ some n
+    go : (p q : Bool) → eqb b 48 ≡ p → is_digit b ≡ q → cond p (nothing_after_zero t) (cond q (digits_after (0 * 10 + (b - 48)) t) None) ≡ Some n
         → decimal n ≡ b ∷ t
     go true q x y f = prints-zero n t f ∙ ap (λ (m : ℕ). m ∷ t) (sym (eqb-true b 48 x))
     go false true x y f =
@@ -139,32 +141,35 @@ prints-numeral (b ∷ t) n e = go (eqb b 48) (is_digit b) refl refl e
         prints-digits (0 * 10 + (b - 48)) n t v f ∙ ap (λ (l : List ℕ). l ++ t) (W.one-digit (0 * 10 + (b - 48)) (omega arith)) ∙ ap (λ (m : ℕ). m ∷ t) s
     go false false x y f = absurd (let z : ◌≡◌ {A = ℕ} 0 1 = cc in omega arith)
 
-never : (n : ℕ) (z : ℤ) → record { fault = suc n; value = pos 0 } ≡ holds z → ⊥
-never n z e = let f : suc n ≡ 0 = ap (λ (x : Field). x.fault) e in omega arith
+never : (x : FieldError) (z : ℤ) → Err x ≡ holds z → ⊥
+never x z e = cc
 
-prints-plain : (up : ℕ) (z : ℤ) (l : List ℕ) (w : Said) → numeral l ≡ w → plain up w ≡ holds z → text_of z ≡ l
+same_value : (y z : ℤ) → holds y ≡ holds z → z ≡ y
+same_value y z e = cc
+
+prints-plain : (up : ℕ) (z : ℤ) (l : List ℕ) (w : Option ℕ) → numeral l ≡ w → plain up w ≡ holds z → text_of z ≡ l
 unfolding text_of
-prints-plain up z l none e f = absurd (never 1 z f)
-prints-plain up z l (some m) e f = go (ltb up m) f
+prints-plain up z l None e f = absurd (never Malformed z f)
+prints-plain up z l (Some m) e f = go (ltb up m) f
   where
     go : (q : Bool) → cond q outside (holds (pos m)) ≡ holds z → text_of z ≡ l
-    go true g = absurd (never 0 z g)
-    go false g = ap text_of (sym (ap (λ (x : Field). x.value) g)) ∙ prints-numeral l m e
+    go true g = absurd (never OutOfRange z g)
+    go false g = ap text_of (same_value (pos m) z g) ∙ prints-numeral l m e
 
-prints-negative : (down : ℕ) (z : ℤ) (l : List ℕ) (w : Said) → numeral l ≡ w → negative down w ≡ holds z → text_of z ≡ 45 ∷ l
+prints-negative : (down : ℕ) (z : ℤ) (l : List ℕ) (w : Option ℕ) → numeral l ≡ w → negative down w ≡ holds z → text_of z ≡ 45 ∷ l
 unfolding text_of
-prints-negative down z l none e f = absurd (never 1 z f)
-prints-negative down z l (some zero) e f = absurd (never 1 z f)
-prints-negative down z l (some (suc m)) e f = go (eqb (suc m) 0) (ltb down (suc m)) refl f
+prints-negative down z l None e f = absurd (never Malformed z f)
+prints-negative down z l (Some zero) e f = absurd (never Malformed z f)
+prints-negative down z l (Some (suc m)) e f = go (eqb (suc m) 0) (ltb down (suc m)) refl f
   where
     go : (p q : Bool) → eqb (suc m) 0 ≡ p → cond p wrong_form (cond q outside (holds (negsuc m))) ≡ holds z → text_of z ≡ 45 ∷ l
-    go true q x g = absurd (never 1 z g)
-    go false true x g = absurd (never 0 z g)
-    go false false x g = ap text_of (sym (ap (λ (y : Field). y.value) g)) ∙ ap (λ (d : List ℕ). 45 ∷ d) (prints-numeral l (suc m) e)
+    go true q x g = absurd (never Malformed z g)
+    go false true x g = absurd (never OutOfRange z g)
+    go false false x g = ap text_of (same_value (negsuc m) z g) ∙ ap (λ (d : List ℕ). 45 ∷ d) (prints-numeral l (suc m) e)
 
 prints-text : (down up : ℕ) (z : ℤ) (l : List ℕ) → field_in down up l ≡ holds z → text_of z ≡ l
 unfolding field_in
-prints-text down up z [] e = absurd (never 1 z e)
+prints-text down up z [] e = absurd (never Malformed z e)
 prints-text down up z (b ∷ t) e = go (eqb b 45) refl e
   where
     go : (q : Bool) → eqb b 45 ≡ q → cond q (negative down (numeral t)) (plain up (numeral (b ∷ t))) ≡ holds z → text_of z ≡ b ∷ t

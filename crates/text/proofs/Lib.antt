@@ -1,4 +1,5 @@
--- The laws of text that the proofs of this crate cite: how a number is read and a line separated into fields, and that reading and printing undo each other.
+-- How numbers and lines are read, and that reading and printing a number are inverse.
+pub mod Ends
+pub mod Inverse
 pub mod Reading
 pub mod Splitting
-pub mod Inverse

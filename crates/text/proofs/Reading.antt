@@ -1,109 +1,81 @@
 -- How a number is read: from the left, digit by digit, and cut at 2^63 + 1, which no type's ends reach.
-use mathlib.Core.Path.{◌≡◌, refl, sym, ap, ◌∙◌}
-use mathlib.Core.List.{List, [], ◌∷◌}
-use mathlib.Core.Bool.{cond}
-use mathlib.Core.Logic.{inl, inr}
-use Prim.Native.Nat.{ℕ, suc, ◌+◌, ◌-◌, ◌*◌, ◌^◌, ◌≤◌, ◌<◌, min}
-use native.Mathlib.Numerals.{add-one}
-use native.Mathlib.Nat.{eq-zero-or-pos}
+use Rattle.std.proofs.Common.{◌≡◌, refl, sym, ap, ◌∙◌, ℕ, zero, suc, ◌+◌, ◌-◌, ◌*◌, ◌^◌, ◌≤◌, ◌<◌, min, Bool, true, false, cond, ltb, eqb, List, [], ◌∷◌, length, drop, get_or, drop-cons, add-one, drop_of_length-le, ℤ, pos, neg_ℤ, Option, Some, None, Result, arith}
 use native.Mathlib.Decide.{dec_le}
-use native.Mathlib.Omega.{arith}
-use lib.Dec.{ltb, eqb}
-use lib.IntN.{pos, neg_ℤ}
-use lib.ListN.{length, drop, get_or, drop_of_length-le}
-use lib.Seq.{drop-cons}
-use borrow.Author.Tests.{lt-ltb, le-ltb, eq-eqb, ne_eqb}
-use Rattle.text.specs.declared.Field.{Field}
-use Rattle.text.specs.Fields.{Said, none, some, digits_after, numeral, kept_digits, plain, negative, above_zero, below_zero, wrong_form, outside, holds, field_in}
+use borrow.Author.Tests.{lt-ltb, le-ltb, ne_eqb, eqb-true}
+use Rattle.std.specs.Char.{IsNotAsciiDigit}
+use Rattle.std.proofs.lemmas.Bool.Decides.{nat_tests}
+use Rattle.kinds.specs.declared.FieldError.{FieldError}
+use Rattle.text.specs.Fields.{is_digit, digits_after, numeral, kept, plain, negative, outside, holds}
 
 -- ---- the first byte
 
-module _ (s : List ℕ) (at : ℕ) where
-  pub empty : length s ≤ at → numeral (drop at s) ≡ none
-  unfolding numeral
-  empty h = rw (drop_of_length-le s h)
+pub one_byte : (s : List ℕ) → length s ≡ 1 → numeral s ≡ digits_after 0 s
+unfolding numeral digits_after
+one_byte [] h = absurd (omega arith)
+one_byte (b ∷ []) h = go (eqb b 48) refl
+  where
+    go : (q : Bool) → eqb b 48 ≡ q → cond q (Some 0) (digits_after 0 (b ∷ [])) ≡ digits_after 0 (b ∷ [])
+    go true e = rw (eqb-true b 48 e) refl
+    go false e = refl
+one_byte (b ∷ c ∷ t) h = absurd (omega arith)
 
-  zero-alone : at < length s → get_or s at 0 ≡ 48 → length s - at ≡ 1 → numeral (drop at s) ≡ some 0
-  unfolding numeral
-  zero-alone h e l =
-      let n : length s ≤ suc at = omega arith in
-      rw (drop-cons s at 0 h, e, drop_of_length-le s n)
+pub first_digit : (s : List ℕ) → 0 < length s → (get_or s 0 0 ≡ 48 → ⊥) → numeral s ≡ digits_after 0 s
+unfolding numeral
+first_digit [] h e = absurd (omega arith)
+first_digit (b ∷ t) h e = rw (ne_eqb b 48 e)
 
-  zero_more : at < length s → get_or s at 0 ≡ 48 → (length s - at ≡ 1 → ⊥) → numeral (drop at s) ≡ none
-  unfolding numeral
-  zero_more h e l =
-      let n : suc at < length s = omega arith in
-      rw (drop-cons s at 0 h, e, drop-cons s (suc at) 0 n)
+-- ---- one byte more, of a number that is cut
 
-  pub zero-first : at < length s → get_or s at 0 ≡ 48 → kept_digits (numeral (drop at s)) ≡ record { formed = eqb (length s - at) 1; size = 0 }
-  zero-first h e = elim (dec_le (length s - at) 1) [
-    | yes l ↦ let o : length s - at ≡ 1 = omega arith in ap kept_digits (zero-alone h e o) ∙ rw (eq-eqb (length s - at) 1 o) refl
-    | no g ↦ let o : (length s - at ≡ 1 → ⊥) = λ (q : length s - at ≡ 1). omega arith in ap kept_digits (zero_more h e o) ∙ rw (ne_eqb (length s - at) 1 o) refl
-  ]
+-- A number that is cut says as much of the digits that follow as the whole one.
+pub cut_before : (v : ℕ) (l : List ℕ) → kept (digits_after (min v (2 ^ 63 + 1)) l) ≡ kept (digits_after v l)
+unfolding digits_after
+cut_before v [] = ap Some (omega arith)
+cut_before v (b ∷ t) =
+    let x : ℕ = min v (2 ^ 63 + 1) * 10 + (b - 48) in
+    let y : ℕ = v * 10 + (b - 48) in
+    let same : min x (2 ^ 63 + 1) ≡ min y (2 ^ 63 + 1) = omega arith in
+    go x y (is_digit b) (sym (cut_before x t) ∙ ap (λ (w : ℕ). kept (digits_after w t)) same ∙ cut_before y t)
+  where
+    go : (x y : ℕ) (q : Bool) → kept (digits_after x t) ≡ kept (digits_after y t) → kept (cond q (digits_after x t) None) ≡ kept (cond q (digits_after y t) None)
+    go x y true e = e
+    go x y false e = refl
 
-  pub start : at < length s → (get_or s at 0 ≡ 48 → ⊥) → numeral (drop at s) ≡ digits_after 0 (drop at s)
-  unfolding numeral
-  start h e = rw (drop-cons s at 0 h, ne_eqb (get_or s at 0) 48 e)
+pub no_more : (s : List ℕ) (i v : ℕ) → length s ≤ i → v ≤ 2 ^ 63 + 1 → Some v ≡ kept (digits_after v (drop i s))
+unfolding digits_after
+no_more s i v h k =
+    let e : v ≡ min v (2 ^ 63 + 1) = omega arith in
+    rw (drop_of_length-le s h) (ap Some e)
 
--- ---- one byte more
+out_of_range : (b : ℕ) → IsNotAsciiDigit b → is_digit b ≡ false
+out_of_range b e = grind (arith, nat_tests)
 
-module _ (s : List ℕ) (i : ℕ) (w : ℕ) where
-  pub low : i < length s → get_or s i 0 < 48 → digits_after w (drop i s) ≡ none
+module _ (s : List ℕ) (i v : ℕ) (h : i < length s) where
+  pub digit_more : 48 ≤ get_or s i 0 → get_or s i 0 ≤ 57 → (w : ℕ) → w ≡ min (v * 10 + (get_or s i 0 - 48)) (2 ^ 63 + 1)
+      → kept (digits_after v (drop i s)) ≡ kept (digits_after w (drop (i + 1) s))
   unfolding digits_after
-  low h l = rw (drop-cons s i 0 h, lt-ltb (get_or s i 0) 48 l)
+  digit_more k l w e =
+      rw (add-one, drop-cons s i 0 h, le-ltb (get_or s i 0) 48 k, le-ltb 57 (get_or s i 0) l, e) (sym (cut_before (v * 10 + (get_or s i 0 - 48)) (drop (suc i) s)))
 
-  pub high : i < length s → 48 ≤ get_or s i 0 → 57 < get_or s i 0 → digits_after w (drop i s) ≡ none
+  pub no_digit : IsNotAsciiDigit (get_or s i 0) → digits_after v (drop i s) ≡ None
   unfolding digits_after
-  high h k l = rw (drop-cons s i 0 h, le-ltb (get_or s i 0) 48 k, lt-ltb 57 (get_or s i 0) l)
-
-  pub next : i < length s → 48 ≤ get_or s i 0 → get_or s i 0 ≤ 57 → digits_after w (drop i s) ≡ digits_after (w * 10 + (get_or s i 0 - 48)) (drop (i + 1) s)
-  unfolding digits_after
-  next h k l = rw (add-one, drop-cons s i 0 h, le-ltb (get_or s i 0) 48 k, le-ltb 57 (get_or s i 0) l)
-
-  pub end : length s ≤ i → digits_after w (drop i s) ≡ some w
-  unfolding digits_after
-  end h = rw (drop_of_length-le s h)
-
-pub cut_again : (v w d : ℕ) → v ≡ min w (2 ^ 63 + 1) → min (v * 10 + d) (2 ^ 63 + 1) ≡ min (w * 10 + d) (2 ^ 63 + 1)
-cut_again v w d e = omega arith
+  no_digit e = rw (drop-cons s i 0 h, out_of_range (get_or s i 0) e) refl
 
 -- ---- a number that is cut says as much of a field as the whole one
 
-same_test : (n end : ℕ) → end ≤ 2 ^ 63 → (f : ℕ → Field) → cond (ltb end (min n (2 ^ 63 + 1))) outside (f (min n (2 ^ 63 + 1))) ≡ cond (ltb end n) outside (f n)
+same_test : (n end : ℕ) → end ≤ 2 ^ 63 → (f : ℕ → Result ℤ FieldError) → cond (ltb end (min n (2 ^ 63 + 1))) outside (f (min n (2 ^ 63 + 1))) ≡ cond (ltb end n) outside (f n)
 same_test n end h f = elim (dec_le n end) [
   | yes l ↦ let e : min n (2 ^ 63 + 1) ≡ n = omega arith in rw e refl
   | no g ↦ let m : end < min n (2 ^ 63 + 1) = omega arith in let m2 : end < n = omega arith in rw (lt-ltb end (min n (2 ^ 63 + 1)) m, lt-ltb end n m2) refl
 ]
 
-same-zero : (n : ℕ) → eqb (min n (2 ^ 63 + 1)) 0 ≡ eqb n 0
-same-zero n = elim (eq-zero-or-pos n) [
-  | inl e ↦ ap (λ (k : ℕ). eqb (min k (2 ^ 63 + 1)) 0) e ∙ sym (eq-eqb n 0 e)
-  | inr p ↦ ne_eqb (min n (2 ^ 63 + 1)) 0 (λ (e : min n (2 ^ 63 + 1) ≡ 0). omega arith) ∙ sym (ne_eqb n 0 (λ (e : n ≡ 0). omega arith))
-]
+pub plain_cut : (up : ℕ) (w r : Option ℕ) → r ≡ kept w → up < 2 ^ 63 → plain up w ≡ plain up r
+plain_cut up None r e h = rw e refl
+plain_cut up (Some n) r e h = sym (rw e (same_test n up (omega arith) (λ (k : ℕ). holds (pos k))))
 
-pub above-is : (up : ℕ) (w : Said) → up ≤ 2 ^ 63 → above_zero up (kept_digits w) ≡ plain up w
-above-is up none h = refl
-above-is up (some n) h = same_test n up h (λ (k : ℕ). holds (pos k))
-
-pub below-is : (down : ℕ) (w : Said) → down ≤ 2 ^ 63 → below_zero down (kept_digits w) ≡ negative down w
-below-is down none h = refl
-below-is down (some n) h = rw (same-zero n) (ap (λ (f : Field). cond (eqb n 0) wrong_form f) (same_test n down h (λ (k : ℕ). holds (neg_ℤ (pos k)))))
-
--- ---- the sign
-
-pub no_bytes : (s : List ℕ) (down up : ℕ) → length s ≡ 0 → wrong_form ≡ field_in down up s
-unfolding field_in
-no_bytes [] down up h = refl
-no_bytes (b ∷ t) down up h = absurd (omega arith)
-
-pub with-minus : (s : List ℕ) (down up : ℕ) → 0 < length s → get_or s 0 0 ≡ 45 → down ≤ 2 ^ 63
-    → below_zero down (kept_digits (numeral (drop 1 s))) ≡ field_in down up s
-unfolding field_in
-with-minus [] down up h e d = absurd (omega arith)
-with-minus (b ∷ t) down up h e d = rw (eq-eqb b 45 e) (below-is down (numeral t) d)
-
-pub without-minus : (s : List ℕ) (down up : ℕ) → 0 < length s → (get_or s 0 0 ≡ 45 → ⊥) → up ≤ 2 ^ 63
-    → above_zero up (kept_digits (numeral (drop 0 s))) ≡ field_in down up s
-unfolding field_in
-without-minus [] down up h e d = absurd (omega arith)
-without-minus (b ∷ t) down up h e d = rw (ne_eqb b 45 e) (above-is up (numeral (b ∷ t)) d)
+pub negative_cut : (down : ℕ) (w r : Option ℕ) → r ≡ kept w → down ≤ 2 ^ 63 → negative down w ≡ negative down r
+negative_cut down None r e h = rw e refl
+negative_cut down (Some zero) r e h = rw e refl
+negative_cut down (Some (suc n)) r e h =
+    let some : (min (suc n) (2 ^ 63 + 1) ≡ 0 → ⊥) = λ (z : min (suc n) (2 ^ 63 + 1) ≡ 0). omega arith in
+    let some2 : (suc n ≡ 0 → ⊥) = λ (z : suc n ≡ 0). omega arith in
+    rw (ne_eqb (suc n) 0 some2) (sym (rw (e, ne_eqb (min (suc n) (2 ^ 63 + 1)) 0 some) (same_test (suc n) down h (λ (k : ℕ). holds (neg_ℤ (pos k))))))

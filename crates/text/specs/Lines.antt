@@ -1,9 +1,12 @@
 -- A line: where it ends, its fields, and what reading them answers and leaves.
 -- (RULES 7.1)
-use Rattle.std.specs.Prelude.{ℕ, max, ◌≡◌, List, [], ◌∷◌, ◌++◌, cond, ltb, eqb, ℤ, length}
+use Rattle.std.specs.Prelude.{ℕ, max, ◌≡◌, List, [], ◌∷◌, ◌++◌, cond, ltb, eqb, ℤ, pos, length, Result, Ok, Err}
 use Rattle.std.proofs.lemmas.List.Edits.{sets}
 use Rattle.text.specs.declared.LineEnd.{LineEnd}
 use Rattle.text.specs.declared.LineEnd.TheVariants.{After, TooLong, Open}
+use Rattle.kinds.specs.declared.Kind.{Kind}
+use Rattle.kinds.specs.declared.FieldError.{FieldError}
+use Rattle.kinds.specs.declared.FieldError.TheVariants.{Malformed, OutOfRange}
 use Rattle.text.specs.Fields.{field_of}
 
 -- ---- where a line ends
@@ -36,25 +39,34 @@ split_fields (b ∷ t) = cond (eqb b 44) ([] ∷ split_fields t) (onto b (split_
 
 -- ---- what reading answers
 
--- The worst fault of the fields, each read as its type: 2 wrong form, 1 outside the type, 0 none. A field without a type is of wrong form, and so is a type
--- without a field.
-unfoldable pub worst : List ℕ → List (List ℕ) → ℕ
+-- The fault of a field: 2 wrong form, 1 outside the type, 0 none. The value of one that has a fault is 0.
+abbrev pub fault_of : {A : Type 0} → Result A FieldError → ℕ
+fault_of (Ok v) = 0
+fault_of (Err OutOfRange) = 1
+fault_of (Err Malformed) = 2
+
+abbrev pub value_of : Result ℤ FieldError → ℤ
+value_of (Ok z) = z
+value_of (Err e) = pos 0
+
+-- The worst fault of the fields, each read as its type. A field without a type is of wrong form, and so is a type without a field.
+unfoldable pub worst : List Kind → List (List ℕ) → ℕ
 worst [] [] = 0
 worst [] (f ∷ fs) = 2
 worst (k ∷ ks) [] = 2
-worst (k ∷ ks) (f ∷ fs) = max (field_of k f).fault (worst ks fs)
+worst (k ∷ ks) (f ∷ fs) = max (fault_of (field_of k f)) (worst ks fs)
 
 -- The refusal's number: 18 for wrong form, before 19.
 abbrev pub number_of : ℕ → ℕ
 number_of fault = cond (eqb fault 0) 0 (cond (eqb fault 1) 19 18)
 
 -- The values of the fields before the first that is of wrong form or has no type, 0 for one outside its type.
-unfoldable pub values : List ℕ → List (List ℕ) → List ℤ
+unfoldable pub values : List Kind → List (List ℕ) → List ℤ
 values [] fs = []
 values (k ∷ ks) [] = []
-values (k ∷ ks) (f ∷ fs) = cond (eqb (field_of k f).fault 2) [] ((field_of k f).value ∷ values ks fs)
+values (k ∷ ks) (f ∷ fs) = cond (eqb (fault_of (field_of k f)) 2) [] (value_of (field_of k f) ∷ values ks fs)
 
 -- Reading a line: its number, and the values set in the lent places from the first on. Values past the last place are dropped, the other places stay.
-pub record Reading (kinds line : List ℕ) (out : List ℤ) (r : ℕ) (left : List ℤ) : Type 0 where
+pub record Reading (kinds : List Kind) (line : List ℕ) (out : List ℤ) (r : ℕ) (left : List ℤ) : Type 0 where
   pub number : r ≡ number_of (worst kinds (split_fields line))
   pub places : left ≡ sets out 0 (values kinds (split_fields line))

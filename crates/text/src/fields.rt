@@ -1,128 +1,71 @@
 // A field: a whole number in decimal, read as one of the types of crates/kinds.
-ghost use Rattle.std.specs.Prelude.{◌≡◌, ◌+◌, ◌*◌, ◌≤◌, ◌<◌, ◌^◌, min, length, drop, pos};
-ghost use Rattle.text.specs.Fields.{none, numeral, kept_digits, down_of, up_of, above_zero, below_zero, field_of};
+ghost use Rattle.std.specs.Prelude.{◌≡◌, ◌+◌, ◌*◌, ◌≤◌, ◌<◌, ◌^◌, min};
+ghost use Rattle.text.specs.Fields.{numeral, kept, plain, negative, field_of};
 
-use crate::{Digits, Field};
+use kinds::{FieldError, Kind};
 
-fn wide(x: u8) -> u64
-    ensures { result ≡ x }
-{
-    x as u64
-}
+// Past the ends of every type. A number stays there once it is there, however many digits follow.
+const PAST: u64 = 0x8000_0000_0000_0001;
 
-// With one digit more. Once it reaches 2^63 + 1 a number stays there, however many digits follow.
-fn with_digit(size: u64, digit: u64) -> u64
-    requires { digit < 10 }
+fn with_digit(size: u64, digit: u8) -> u64
     ensures { result ≡ min (size * 10 + digit) (2 ^ 63 + 1) }
 {
-    if 922_337_203_685_477_580 < size {
-        return 0x8000_0000_0000_0001;
-    }
-    size * 10 + digit
+    size.saturating_mul(10)
+        .saturating_add(u64::from(digit))
+        .min(PAST)
 }
 
-fn no_number() -> Digits
-    ensures { result ≡ kept_digits none }
+// The number that has these digits: at least one, and no 0 before others.
+#[tactic(auto, using(crate::proofs::Reading::digit_more), unfolding(crate::specs::Fields::numeral))]
+fn number(digits: &[u8]) -> Option<u64>
+    ensures { result ≡ kept (numeral digits.now) }
 {
-    Digits {
-        formed: false,
-        size: 0,
+    if let [] | [b'0', _, ..] = digits {
+        return None;
     }
-}
-
-// The number whose digits are the bytes from `at` to the end.
-fn digits_from(s: &[u8], at: usize) -> Digits
-    requires { at ≤ length s.now }
-    ensures { result ≡ kept_digits (numeral (drop at s.now)) }
-{
-    if s.len() <= at {
-        return no_number();
-    }
-    if s[at] == b'0' {
-        return Digits {
-            formed: s.len() - at == 1,
-            size: 0,
-        };
-    }
-    let mut size: u64 = 0;
-    let mut i = at;
-    while i < s.len() {
-        let b = s[i];
-        if b < b'0' {
-            return no_number();
+    let mut size = 0;
+    for b in digits {
+        if !b.is_ascii_digit() {
+            return None;
         }
-        if b'9' < b {
-            return no_number();
-        }
-        size = with_digit(size, wide(b - b'0'));
-        i += 1;
+        size = with_digit(size, *b - b'0');
     }
-    Digits { formed: true, size }
+    Some(size)
 }
 
-// How far a type reaches below zero.
-fn down_of(kind: u8) -> u64
-    ensures { result ≡ down_of kind }
-{
-    print::magnitude(kinds::least_of(kind))
-}
-
-// How far a type reaches above zero.
-fn up_of(kind: u8) -> u64
-    ensures { result ≡ up_of kind }
-{
-    print::magnitude(kinds::most_of(kind))
-}
-
-fn bad(fault: u8) -> Field
-    ensures { result ≡ record { fault = fault; value = pos 0 } }
-{
-    Field { fault, value: 0 }
-}
-
-fn above_zero(d: Digits, up: u64) -> Field
+// The number with these digits, up to `up`.
+#[tactic(auto, using(crate::proofs::Reading::plain_cut))]
+fn above_zero(digits: &[u8], up: u64) -> Result<i64, FieldError>
     requires { up < 2 ^ 63 }
-    ensures { result ≡ above_zero up d }
+    ensures { result ≡ plain up (numeral digits.now) }
 {
-    if !d.formed {
-        return bad(2);
-    }
-    if up < d.size {
-        return bad(1);
-    }
-    Field {
-        fault: 0,
-        value: d.size as i64,
+    match number(digits) {
+        None => Err(FieldError::Malformed),
+        Some(size) if up < size => Err(FieldError::OutOfRange),
+        Some(size) => Ok(size as i64),
     }
 }
 
-fn below_zero(d: Digits, down: u64) -> Field
+// The number with these digits behind a minus sign, down to `down` below zero.
+#[tactic(auto, using(crate::proofs::Reading::negative_cut))]
+fn below_zero(digits: &[u8], down: u64) -> Result<i64, FieldError>
     requires { down ≤ 2 ^ 63 }
-    ensures { result ≡ below_zero down d }
+    ensures { result ≡ negative down (numeral digits.now) }
 {
-    if !d.formed {
-        return bad(2);
-    }
-    if d.size == 0 {
-        return bad(2);
-    }
-    if down < d.size {
-        return bad(1);
-    }
-    Field {
-        fault: 0,
-        value: -1 - ((d.size - 1) as i64),
+    match number(digits) {
+        None | Some(0) => Err(FieldError::Malformed),
+        Some(size) if down < size => Err(FieldError::OutOfRange),
+        Some(size) => Ok(0i64.saturating_sub_unsigned(size)),
     }
 }
 
-pub(crate) fn field(s: &[u8], kind: u8) -> Field
+#[tactic(auto, unfolding(crate::specs::Fields::field_of, crate::specs::Fields::field_in))]
+pub(crate) fn field(s: &[u8], kind: Kind) -> Result<i64, FieldError>
     ensures { result ≡ field_of kind s.now }
 {
-    if s.len() == 0 {
-        return bad(2);
+    match s {
+        [] => Err(FieldError::Malformed),
+        [b'-', digits @ ..] => below_zero(digits, kind.least().unsigned_abs()),
+        _ => above_zero(s, kind.most().unsigned_abs()),
     }
-    if s[0] == b'-' {
-        return below_zero(digits_from(s, 1), down_of(kind));
-    }
-    above_zero(digits_from(s, 0), up_of(kind))
 }

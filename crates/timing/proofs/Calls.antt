@@ -18,7 +18,7 @@ use Rattle.symbol.specs.declared.Symbol.{Symbol}
 use Rattle.state.specs.Check.{pairs_taken, block_faults}
 use Rattle.retune.specs.Retune.{retuned, commit_of}
 use Rattle.fixed.specs.Sample.{after, emitted}
-use Rattle.fixed.specs.Block.{pairs_of, flattened, clips_of, accepted, block_of}
+use Rattle.fixed.specs.Block.{Block, pairs_of, flattened, clips_of, accepted, block_of}
 use Rattle.fixed.proofs.Runs.{flattened-append, length-flattened, clips-append, run-samples}
 use Rattle.timing.specs.Lists.{Call, block, commit, state_by, taken_by, written_by, counted_by, clipped_by, state_after, taken, written, counted, clipped}
 
@@ -38,41 +38,34 @@ module _ (s : Sheet) (f : Frontend) (values out : List ℤ) where
   abbrev pub pairs_of_block : List Pair
   pairs_of_block = take (block_of s f values out).taken (pairs_of values)
 
+  -- what holds of the answer of a block that ran, and of a refused one's, holds of a block's
+  pub of-either : (P : Block → Type 0) → P (accepted s f values out)
+      → P (record { refused = first_of (block_faults s f (length values) (length out)); state = f; taken = 0; count = 0; clips = 0; output = out })
+      → P (block_of s f values out)
+  of-either P ran refused = go (eqb block_number 0) refl
+    where
+      go : (b : Bool) → eqb block_number 0 ≡ b → P (block_of s f values out)
+      go true e = rw (answer-is true e) ran
+      go false e = rw (answer-is false e) refused
+
   pub block-state : (block_of s f values out).state ≡ after s f pairs_of_block
   unfolding accepted after
-  block-state = go (eqb block_number 0) refl
-    where
-      go : (b : Bool) → eqb block_number 0 ≡ b → (block_of s f values out).state ≡ after s f pairs_of_block
-      go true e = rw (answer-is true e)
-      go false e = rw (answer-is false e)
+  block-state = of-either (λ b. b.state ≡ after s f (take b.taken (pairs_of values))) refl refl
 
   pub block-count : (block_of s f values out).count ≡ length (emitted s f pairs_of_block)
   unfolding accepted emitted
-  block-count = go (eqb block_number 0) refl
-    where
-      go : (b : Bool) → eqb block_number 0 ≡ b → (block_of s f values out).count ≡ length (emitted s f pairs_of_block)
-      go true e = rw (answer-is true e)
-      go false e = rw (answer-is false e)
+  block-count = of-either (λ b. b.count ≡ length (emitted s f (take b.taken (pairs_of values)))) refl refl
 
   block-clips : (block_of s f values out).clips ≡ clips_of (emitted s f pairs_of_block)
   unfolding accepted emitted clips_of
-  block-clips = go (eqb block_number 0) refl
-    where
-      go : (b : Bool) → eqb block_number 0 ≡ b → (block_of s f values out).clips ≡ clips_of (emitted s f pairs_of_block)
-      go true e = rw (answer-is true e)
-      go false e = rw (answer-is false e)
+  block-clips = of-either (λ b. b.clips ≡ clips_of (emitted s f (take b.taken (pairs_of values)))) refl refl
 
   block-output : take (20 * (block_of s f values out).count) (block_of s f values out).output ≡ flattened (emitted s f pairs_of_block)
   unfolding accepted emitted flattened
-  block-output = go (eqb block_number 0) refl
-    where
-      go : (b : Bool) → eqb block_number 0 ≡ b
-          → take (20 * (block_of s f values out).count) (block_of s f values out).output ≡ flattened (emitted s f pairs_of_block)
-      go true e =
-          let n : ℕ = pairs_taken (length values) (length out) in
-          let ys : List Symbol = emitted s f (take n (pairs_of values)) in
-          rw (answer-is true e) (take_at (flattened ys) (drop (20 * length ys) out) (20 * length ys) (length-flattened ys))
-      go false e = rw (answer-is false e)
+  block-output =
+      let ys : List Symbol = emitted s f (take (pairs_taken (length values) (length out)) (pairs_of values)) in
+      of-either (λ b. take (20 * b.count) b.output ≡ flattened (emitted s f (take b.taken (pairs_of values))))
+      (take_at (flattened ys) (drop (20 * length ys) out) (20 * length ys) (length-flattened ys)) refl
 
 -- ---- a commit
 
@@ -81,6 +74,14 @@ pub commit-state : (s : Sheet) (ticket : ℕ) (f : Frontend) (b : Bool) → eqb 
     → (commit_of s ticket f).state ≡ cond b (retuned s.params f) f
 unfolding commit_of
 commit-state s ticket f b e = rw e
+
+-- what holds of the state under the new sheet, and of the one given, holds of what a commit leaves
+pub of-either-state : (s : Sheet) (ticket : ℕ) (f : Frontend) (P : Frontend → Type 0) → P (retuned s.params f) → P f → P (commit_of s ticket f).state
+of-either-state s ticket f P took left = go (eqb (commit_of s ticket f).refused.number 0) refl
+  where
+    go : (b : Bool) → eqb (commit_of s ticket f).refused.number 0 ≡ b → P (commit_of s ticket f).state
+    go true e = rw (commit-state s ticket f true e) took
+    go false e = rw (commit-state s ticket f false e) left
 
 -- ---- the symbols of a call, and of calls
 
@@ -129,11 +130,7 @@ calls-clipped f (c ∷ cs) =
 -- a commit counts none
 pub commit-samples : (s : Sheet) (ticket : ℕ) (f : Frontend) → (commit_of s ticket f).state.samples ≡ f.samples
 unfolding retuned
-commit-samples s ticket f = go (eqb (commit_of s ticket f).refused.number 0) refl
-  where
-    go : (b : Bool) → eqb (commit_of s ticket f).refused.number 0 ≡ b → (commit_of s ticket f).state.samples ≡ f.samples
-    go true e = rw (commit-state s ticket f true e)
-    go false e = rw (commit-state s ticket f false e)
+commit-samples s ticket f = of-either-state s ticket f (λ g. g.samples ≡ f.samples) refl refl
 
 pub call-samples : (f : Frontend) (c : Call) → (state_by f c).samples ≡ f.samples + length (taken_by f c)
 call-samples f (block s values out) = rw (block-state s f values out) (run-samples s f (pairs_of_block s f values out))

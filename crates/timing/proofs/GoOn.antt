@@ -1,24 +1,23 @@
 -- Behind a list, 9 says that the sheet is another than the held one, and nothing else. The invariant gives each test that a call makes of a state: the
 -- registers stay within the held sheet's clamps, the positions within the line and the queue, and there is at most one symbol a sample. So under the held
 -- sheet only what a block brings itself, 10 to 12, can refuse it; and under another the comparison of the two sheets fails.
-use Prim.Native.Nat.{ℕ, ◌+◌, ◌%◌, ◌≤◌}
+use Prim.Native.Nat.{ℕ, ◌≤◌}
 use mathlib.Core.Path.{◌≡◌, refl, sym, ap, subst, ◌∙◌}
-use mathlib.Core.Logic.{◌⊎◌, inl, inr}
-use mathlib.Core.Bool.{Bool, true, false, ◌||◌}
+use mathlib.Core.Logic.{◌⊎◌}
+use mathlib.Core.Bool.{Bool, true, false}
 use mathlib.Core.List.{List, [], ◌∷◌, ◌++◌, flatten}
 use native.Mathlib.Omega.{arith}
-use lib.Dec.{eqb, leb}
 use lib.ListN.{length}
 use lib.IntN.{ℤ}
 use Rattle.arith.proofs.Both.{and_both}
 use Rattle.params.specs.declared.Params.{Params}
-use Rattle.params.specs.Refusal.{Refusal, refusal, unless, first_of}
+use Rattle.params.specs.Refusal.{Refusal, refusal, first_of}
 use Rattle.params.specs.Judge.{Sheet, faults}
 use Rattle.params.proofs.Accepted.{judged-none}
 use Rattle.fields.specs.Fields.{same_fields}
 use Rattle.fields.proofs.Same.{equal-sheets, same-sheet}
 use Rattle.state.specs.declared.Frontend.{Frontend}
-use Rattle.state.specs.Check.{good_state, can_go_on, state_faults, pairs_taken, size_faults, block_faults}
+use Rattle.state.specs.Check.{good_state, can_go_on, state_faults, size_faults, block_faults}
 use Rattle.state.specs.Read.{read_of}
 use Rattle.state.proofs.Going.{Going, good}
 use Rattle.fixed.specs.Block.{block_of}
@@ -35,14 +34,7 @@ Own n = (n ≡ 0) ⊎ ((10 ≤ n) × (n ≤ 12))
 own : (l : List Refusal) → l ≡ [] → (f : Frontend) (values places : ℕ)
     → let r = first_of (l ++ size_faults f values places) in Own r.number
 unfolding size_faults flatten
-own l e f values places =
-    rw e (by (eqb (values % 2) 0) (eqb values 0 || leb 20 places) (leb (f.samples + pairs_taken values places) 9223372036854775807))
-  where
-    by : (x y z : Bool) → let r = first_of (unless x (refusal 10 []) ++ (unless y (refusal 11 []) ++ (unless z (refusal 12 []) ++ []))) in Own r.number
-    by false y z = inr (omega arith, omega arith)
-    by true false z = inr (omega arith, omega arith)
-    by true true false = inr (omega arith, omega arith)
-    by true true true = inl refl
+own l e f values places = rw e (grind arith)
 
 module _ (t : Sheet) (f : Frontend) (clean : faults t ≡ []) where
   -- ---- the held sheet

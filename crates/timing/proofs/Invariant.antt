@@ -301,19 +301,11 @@ module _ (p₀ : Params) (P : ℕ → Params) where
             (q j (omega arith) (omega arith))
 
     waiting-next : (n c : ℕ) → p.delay ≡ delay → c ≡ min n delay → cond (is_due p.delay c) c (c + 1) ≡ min (n + 1) delay
-    waiting-next n c same h = go (is_due p.delay c) refl
-      where
-        go : (e : Bool) → is_due p.delay c ≡ e → cond (is_due p.delay c) c (c + 1) ≡ min (n + 1) delay
-        go true e = rw e (omega (arith, eqb-true c p.delay e))
-        go false e = let d : c ≢ p.delay = eqb-false c p.delay e in rw e (omega arith)
+    waiting-next n c same h = grind arith
 
     oldest-next : (n c o : ℕ) → p.delay ≡ delay → c ≡ min n delay → o ≡ (n - delay) % ring_places
         → cond (is_due p.delay c) ((o + 1) % ring_places) o ≡ (n + 1 - delay) % ring_places
-    oldest-next n c o same h l = go (is_due p.delay c) refl
-      where
-        go : (e : Bool) → is_due p.delay c ≡ e → cond (is_due p.delay c) ((o + 1) % ring_places) o ≡ (n + 1 - delay) % ring_places
-        go true e = rw e (omega (arith, eqb-true c p.delay e))
-        go false e = let d : c ≢ p.delay = eqb-false c p.delay e in rw e (omega arith)
+    oldest-next n c o same h l = grind arith
 
     total-snoc : (f : Frontend) (S : List Symbol) → total (S ++ (symbol_of s f ∷ [])) ≡ total S + (due p f).period
     unfolding total symbol_of symbol_from

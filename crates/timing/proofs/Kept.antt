@@ -16,10 +16,10 @@ use Rattle.state.specs.declared.Pair.{Pair}
 use Rattle.state.specs.declared.Frontend.{Frontend}
 use Rattle.state.specs.Check.{block_faults}
 use Rattle.state.proofs.Going.{going}
-use Rattle.state.proofs.Verdicts.{block-numbered, Faultless, faultless}
+use Rattle.state.proofs.Answers.{block-numbered, Faultless, faultless}
 use Rattle.symbol.specs.declared.Symbol.{Symbol}
 use Rattle.retune.specs.Retune.{retuned, commit_of}
-use Rattle.retune.proofs.Verdicts.{Retunes, retunes, committed-none}
+use Rattle.retune.proofs.Answers.{Retunes, retunes, committed-none}
 use Rattle.fixed.specs.Sample.{next, made_by, after, emitted}
 use Rattle.fixed.specs.Block.{block_of}
 use Rattle.fixed.proofs.Runs.{run-params}

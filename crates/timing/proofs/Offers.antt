@@ -15,7 +15,7 @@ use Rattle.state.specs.declared.Pair.{Pair}
 use Rattle.state.specs.declared.Frontend.{Frontend}
 use Rattle.state.specs.Check.{pairs_taken, block_faults}
 use Rattle.state.proofs.Going.{Going}
-use Rattle.state.proofs.Verdicts.{Sized, no-sizes}
+use Rattle.state.proofs.Answers.{Sized, no-sizes}
 use Rattle.fixed.specs.Sample.{after}
 use Rattle.fixed.specs.Block.{Block, pairs_of, accepted, block_of}
 use Rattle.fixed.proofs.Runs.{run-samples, run-params}

@@ -5,19 +5,18 @@ use mathlib.Core.Path.{◌≡◌, refl, sym, ap, subst, ◌∙◌}
 use mathlib.Core.Bool.{Bool, true, false}
 use mathlib.Core.List.{List, [], ◌∷◌, ◌++◌, append_assoc}
 use native.Mathlib.Omega.{arith}
-use lib.Dec.{eqb}
 use lib.ListN.{length, replicate, length-replicate}
 use Rattle.params.specs.declared.Params.{Params}
 use Rattle.params.specs.Judge.{Sheet}
 use Rattle.state.specs.declared.Pair.{Pair}
 use Rattle.state.specs.declared.Frontend.{Frontend}
 use Rattle.symbol.specs.declared.Symbol.{Symbol}
-use Rattle.retune.specs.Retune.{retuned, commit_of}
+use Rattle.retune.specs.Retune.{retuned}
 use Rattle.fixed.specs.Sample.{due, symbol_of, joined, with_symbol, without_symbol, falls, next, made_by, after, emitted}
 use Rattle.fixed.specs.Block.{block_of}
 use Rattle.fixed.proofs.Runs.{next-samples}
 use Rattle.timing.specs.Lists.{Call, block, commit, state_by, taken_by, state_after, taken}
-use Rattle.timing.proofs.Calls.{pairs_of_block, block-state, commit-state, made_by_call, made_in, call-samples}
+use Rattle.timing.proofs.Calls.{pairs_of_block, block-state, of-either-state, made_by_call, made_in, call-samples}
 
 -- ---- the sheets that a list's samples went through
 
@@ -164,12 +163,7 @@ module _ (Q : ℕ → Sheet) where
       let e : (block_of s f values out).state ≡ end_by f (pairs_of_block s f values out) =
       block-state s f values out ∙ block-end s f (pairs_of_block s f values out) l in
       own (block_of s f values out).state ∙ ap (retuned (block_of s f values out).state.params) e
-  call-end f (commit s ticket) l = go (eqb (commit_of s ticket f).refused.number 0) refl
-    where
-      go : (b : Bool) → eqb (commit_of s ticket f).refused.number 0 ≡ b
-          → (commit_of s ticket f).state ≡ retuned (commit_of s ticket f).state.params f
-      go true e = rw (commit-state s ticket f true e) (twice s.params s.params f)
-      go false e = rw (commit-state s ticket f false e) (own f)
+  call-end f (commit s ticket) l = of-either-state s ticket f (λ g. g ≡ retuned g.params f) (twice s.params s.params f) (own f)
 
   -- and so is a list
   pub list-run : (f : Frontend) (cs : List Call) → Along f.samples (given f cs) → made_in f cs ≡ run_by f (taken f cs)

@@ -20,9 +20,9 @@ use Rattle.state.specs.declared.Pair.{Pair}
 use Rattle.state.specs.declared.Frontend.{Frontend}
 use Rattle.state.specs.Check.{good_state, block_faults}
 use Rattle.state.proofs.Going.{time, Going, going, good}
-use Rattle.state.proofs.Verdicts.{block-numbered, Faultless, faultless}
+use Rattle.state.proofs.Answers.{block-numbered, Faultless, faultless}
 use Rattle.retune.specs.Retune.{retuned, ask_of, commit_of}
-use Rattle.retune.proofs.Verdicts.{Retunes, retunes, no-ask-faults, asked-none, committed-none, commits-none, ticket_is}
+use Rattle.retune.proofs.Answers.{Retunes, retunes, no-ask-faults, asked-none, committed-none, commits-none, ticket_is}
 use Rattle.fixed.specs.Sample.{joined, without_symbol, falls, next, made_by, after, emitted}
 use Rattle.fixed.specs.Block.{block_of}
 use Rattle.fixed.proofs.States.{head-below, without-symbol-going}

@@ -33,7 +33,7 @@ passed2 : (c : Joined-end-self) → c.if-self-ge0.value ≡ first2 c.args.self
 unfolding first2
 passed2 c =
     let z = c.args.self.t_acc in
-    let e : to_z w64 (of_z w64 z) ≡ z = held w64 z c.struct_told-2-1.given.1.0.1 in
+    let e : to_z w64 (of_z w64 z) ≡ z = held w64 z (search c depth 40) in
     elim c.if-self-ge0.branch [
       | then-self-ge0 w ↦ and-taken (ap (le_z (pos 0)) e) w.if-self-ge0.true (w.value-is ∙ ap (λ (x : ℤ). lt_z x one) e)
       | else-self-ge0 w ↦ and-left (lt_z z one) (ap (le_z (pos 0)) e) w.if-self-ge0.false w.value-is
@@ -43,7 +43,7 @@ low : (c : Joined-end-self)
     → c.if-self-lt16777216.value ≡ (first2 c.args.self && le_z (neg_ℤ (integrator_end c.args.p)) c.args.self.v)
 low c =
     let v = c.args.self.v in
-    let test = low-test (most c) v c.struct_told-2-1.given.1.1.0.1 in
+    let test = low-test (most c) v (search c depth 40) in
     elim c.if-self-lt16777216.branch [
       | then-self-lt16777216 w ↦ and-taken (passed2 c) w.if-self-lt16777216.true (w.value-is ∙ test)
       | else-self-lt16777216 w ↦ and-left _ (passed2 c) w.if-self-lt16777216.false w.value-is
@@ -54,7 +54,7 @@ unfolding first4
 passed4 c =
     let v = c.args.self.v in
     let high = integrator_end c.args.p in
-    let test = high-test (most c) v c.struct_told-2-1.given.1.1.0.1 in
+    let test = high-test (most c) v (search c depth 40) in
     let e : c.if-end-self.value ≡ ((first2 c.args.self && le_z (neg_ℤ high) v) && le_z v high) =
     elim c.if-end-self.branch [
       | then-end-self w ↦ and-taken (low c) w.if-end-self.true (w.value-is ∙ test)
