@@ -138,7 +138,7 @@ def count(top):
     for path in sorted(glob.glob(os.path.join(top, "crates/*/proofs/**/*.antt"), recursive=True)):
         if os.path.basename(path) in ("Proof.antt", "Answers.antt", "Invariants.antt"):
             found["8a"].append((os.path.relpath(path, top), ""))
-        found["8b"] += [("", "")] * len(open(path).read().split("\n"))
+        found["8b"] += [("", "")] * len(open(path).read().splitlines())
     return found
 
 

@@ -142,6 +142,7 @@ pub extern "C" fn huntelm_offset(
 pub extern "C" fn huntelm_sample(floats: &[f32], values: &mut [i16]) -> u32
     ensures { record { number = result; places = values.new } ≡ sample_answer floats.now values.old }
 {
+    // As `number`, of an error that is no call's: a trait for two types would be longer than this.
     match input::sample(floats, values) {
         Ok(()) => 0,
         Err(error) => error.number(),

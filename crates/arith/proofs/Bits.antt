@@ -28,13 +28,9 @@ back w z h = grind (arith, ints)
 pub held : (w : Width) (z : ℤ) → mag z < 2 ^ hbits w → to_z w (of_z w z) ≡ z
 held w z h = grind (arith, ints)
 
--- a width that is as wide or wider, as in `x as i64`: the cast loses nothing, and z is read back
-pub widens : {w : Width} (w' : Width) {z : ℤ} → T (leb (hbits w) (hbits w')) → SFits w z → SFits w' (to_z w (of_z w z))
-widens w' h h1 = grind (arith, ints)
-
 pub widened : {w : Width} (w' : Width) {z : ℤ} → T (leb (hbits w) (hbits w')) → SFits w z → to_z w' (of_z w' (to_z w (of_z w z))) ≡ z
 widened w' h h1 = grind (arith, ints)
 
--- an unsigned number as a signed one of twice the width, as in `x as i64` of a `u32`: it is the same
-pub whole : (n : ℕ) → Fits w32 n → to_z w64 n ≡ pos n
-whole n h = grind (arith, ints)
+-- an unsigned number as a signed one of twice the width, as `i64::from` gives it of a `u32`: it is the same
+pub whole : {z : ℤ} (n : ℕ) → z ≡ pos n → Fits w32 n → to_z w64 (of_z w64 z) ≡ pos n
+whole n is h = rw is (back w64 (pos n) (omega (arith, h.fits)))

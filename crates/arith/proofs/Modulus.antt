@@ -18,9 +18,6 @@ pub mod-is : (v : ℤ) → Modulo v (mod_z v (2 ^ 32))
 unfolding mod_z
 mod-is v = record { small = grind (arith, ints); alike = grind (arith, ints) }
 
-pub mod-only : (v : ℤ) (n : ℕ) → Modulo v n → n ≡ mod_z v (2 ^ 32)
-mod-only v n m = omega (arith, mod-is v)
-
 -- ---- signed: the same of wrap_i32
 
 pub record Wrapped (v r : ℤ) : Type 0 where

@@ -2,7 +2,7 @@
 -- pos_part and neg_part, and an equation or an order of ℤ follows from one of ℕ.
 use Prim.Native.Nat.{ℕ, suc, ◌+◌, ◌^◌, ◌≤◌, ◌<◌}
 use mathlib.Core.Path.{◌≡◌}
-use mathlib.Core.Bool.{true, false}
+use mathlib.Core.Bool.{true}
 use Rattle.std.proofs.lemmas.Int.{ints}
 use native.Mathlib.Omega.{arith}
 use lib.Dec.{T}
@@ -23,10 +23,6 @@ neg_part (negsuc n) = suc n
 pub abs-pn : (z : ℤ) → nat_abs z ≡ pos_part z + neg_part z
 abs-pn z = grind (arith, ints)
 
--- of a number that is not below zero
-pub nat-pn : (z : ℤ) → neg_part z ≤ pos_part z → nat_abs z + neg_part z ≡ pos_part z
-nat-pn z h = grind (arith, ints)
-
 -- ---- sums
 
 pub add-pn : (a b : ℤ) → pos_part (a +ℤ b) + (neg_part a + neg_part b) ≡ neg_part (a +ℤ b) + (pos_part a + pos_part b)
@@ -45,9 +41,6 @@ minus-pn a b = grind (arith, ints)
 
 pub lt-pn : (a b : ℤ) → lt_z a b ≡ true → pos_part a + neg_part b < pos_part b + neg_part a
 lt-pn a b h = grind (arith, ints)
-
-pub ge-pn : (a b : ℤ) → lt_z a b ≡ false → pos_part b + neg_part a ≤ pos_part a + neg_part b
-ge-pn a b h = grind (arith, ints)
 
 pub le-pn : (a b : ℤ) → le_z a b ≡ true → pos_part a + neg_part b ≤ pos_part b + neg_part a
 le-pn a b h = grind (arith, ints)

@@ -30,7 +30,7 @@ pub fn round_product(a: i16, b: i32, s: u32) -> i64
         return 0;
     }
     let half: i64 = (1 << s) >> 1;
-    ((a as i64) * (b as i64) + half) >> s
+    (i64::from(a) * i64::from(b) + half) >> s
 }
 
 // v / 2^s, rounded down. From 63 places on only the sign is left.
@@ -48,7 +48,7 @@ pub fn divide_nearest(n: i64, m: u32) -> i64
     if m == 0 {
         return 0;
     }
-    let d = m as i64;
+    let d = i64::from(m);
     n / d + 2 * (n % d) / d
 }
 
@@ -60,7 +60,8 @@ pub fn clamp(v: i64, lo: i64, hi: i64) -> i64
     if v < lo { lo } else { v.min(hi) }
 }
 
-// A number within 16 bits, and whether it is another than the one that was to be held.
+// A number within 16 bits, and whether it is another than the one that was to be held. Every number has both, and who clips a number also counts it, so neither
+// an Option nor a Result would say this.
 #[derive(Clone, Copy)]
 pub struct Saturated {
     pub value: i16,

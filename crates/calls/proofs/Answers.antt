@@ -3,27 +3,20 @@
 use Prim.Native.Nat.{ℕ, ◌≤◌, ◌<◌}
 use mathlib.Core.Path.{◌≡◌, refl, sym, ap, ◌∙◌}
 use mathlib.Core.Bool.{Bool, true, false, cond, and-true}
-use mathlib.Core.List.{List, [], ◌∷◌}
+use mathlib.Core.List.{List, ◌∷◌}
 use native.Mathlib.Omega.{arith}
 use lib.Dec.{eqb, leb}
-use lib.ListN.{length, drop, set}
+use lib.ListN.{length, drop}
 use lib.IntN.{ℤ, pos}
 use lib.Ieee.{Float}
 use borrow.Author.Tests.{ne_eqb, eqb-true, eqb-false, le-leb, lt-leb}
-use Rattle.kinds.specs.declared.FieldError.{FieldError}
-use Rattle.kinds.specs.Kinds.{field_number}
-use Rattle.kinds.specs.Answer.{answered, first_number}
+use Rattle.kinds.specs.Answer.{Answer, answered, first_number}
 use Rattle.params.specs.declared.Params.{Params}
-use Rattle.params.specs.declared.ParamError.{ParamError}
-use Rattle.params.specs.Refusal.{Refusal, nothing, first_of, error_refusal}
-use Rattle.params.proofs.Faults.{error-numbered}
+use Rattle.params.specs.Refusal.{Refusal, nothing, first_of}
 use Rattle.params.specs.Judge.{Sheet}
-use Rattle.design.specs.Refusal.{accepted, refused, sheet_refusal}
-use Rattle.design.specs.declared.SheetError.{SheetError}
+use Rattle.design.specs.Refusal.{accepted}
 use Rattle.design.specs.Design.{sheet_of_design}
 use Rattle.state.specs.declared.Frontend.{Frontend}
-use Rattle.fields.specs.Fields.{no_fields}
-use Rattle.state.specs.Start.{Start, start_of, fresh}
 use Rattle.state.specs.declared.FrontendError.{FrontendError}
 use Rattle.state.specs.Check.{block_faults, frontend_refusal}
 use Rattle.state.proofs.Answers.{refuses, frontend-numbered}
@@ -33,8 +26,8 @@ use Rattle.fixed.proofs.Refused.{number-first}
 use Rattle.places.specs.Sheet.{sheet_number, sheet_written}
 use Rattle.places.specs.Rates.{design_number, design_at, gains_at}
 use Rattle.places.specs.States.{Slices, are_long, read_state, numbers_of, has_places, state_written}
-use Rattle.calls.specs.Calls.{sheet_at, start_answer, state_number, block_answer, read_answer, design_answer}
-use Rattle.calls.proofs.Numbers.{field-numbered, sheet-numbered}
+use Rattle.calls.specs.Calls.{sheet_at, state_number, BlockAnswer, block_answer, read_answer, design_answer}
+use Rattle.calls.proofs.Numbers.{numbered}
 use Rattle.calls.proofs.NoState.{reading-number, block-number, state-read, state-fits}
 use Rattle.calls.proofs.Fitting.{started-placed, left, untouched}
 use Rattle.places.proofs.Readable.{state-long}
@@ -49,47 +42,10 @@ none_of a b e = go (eqb a 0) refl
     go true t = (eqb-true a 0 t, rw t at e)
     go false t = absurd (eqb-false a 0 t (rw t at e))
 
--- ---- a sheet or a design that cannot be read
-
-unread : (e : FieldError) → eqb (field_number e) 0 ≡ false
-unread e = ne_eqb (field_number e) 0 (λ z. absurd (omega (arith, field-numbered e)))
-
-pub start_unread : (l h g k : List ℤ) (state : Slices) (e : FieldError) → field_number e ≡ sheet_number l
-    → start_answer l h g k state ≡ record { number = field_number e; state = state }
-unfolding start_answer
-start_unread l h g k state e told = simp (sym told, unread e) refl
-
-pub block_unread : (l h g k : List ℤ) (state : Slices) (values out answer : List ℤ) (e : FieldError) → field_number e ≡ sheet_number l
-    → block_answer l h g k state values out answer ≡ record { number = field_number e; state = state; output = out; answer = answer }
-unfolding block_answer
-block_unread l h g k state values out answer e told = simp (sym told, unread e) refl
-
-pub read_unread : (l h g k : List ℤ) (state : Slices) (places : List ℤ) (e : FieldError) → field_number e ≡ sheet_number l
-    → read_answer l h g k state places ≡ record { number = field_number e; places = places }
-unfolding read_answer
-read_unread l h g k state places e told = simp (sym told, unread e) refl
-
-pub design_unread : (rates : List Float) (fields h g k places : List ℤ) (e : FieldError) → field_number e ≡ design_number rates fields
-    → design_answer rates fields h g k places ≡ record { number = field_number e; places = places }
-unfolding design_answer
-design_unread rates fields h g k places e told = simp (sym told, unread e) refl
-
 -- ---- starting
 
-pub start_refused : (l h g k : List ℤ) (state : Slices) (e : ParamError) → 0 ≡ sheet_number l
-    → ◌≡◌ {A = Start} (record { refused = error_refusal e; state = fresh no_fields }) (start_of (sheet_at l h g k))
-    → start_answer l h g k state ≡ record { number = (error_refusal e).number; state = state }
-unfolding start_answer
-start_refused l h g k state e read is = simp (sym read, sym is, refuses (error_refusal e) (error-numbered e)) refl
-
--- the fresh state is written
-pub start_made : (l h g k : List ℤ) (state : Slices) (f : Frontend) → 0 ≡ sheet_number l
-    → ◌≡◌ {A = Start} (record { refused = nothing; state = f }) (start_of (sheet_at l h g k))
-    → start_answer l h g k state ≡ state_written f state
-unfolding start_answer state_written
-start_made l h g k state f read is =
-    let placed : has_places f ≡ true = ap (λ (a : Start). has_places a.state) is ∙ started-placed (sheet_at l h g k) in
-    rw (← read, ← is, placed, and-true (are_long state)) refl
+-- the fresh state has places for its counts, so it is written wherever the slices are long enough
+pub ruleset started = (numbered, started-placed, and-true)
 
 -- ---- reading and a block
 
@@ -98,37 +54,34 @@ module _ (l h g k : List ℤ) (state : Slices) where
   abbrev s : Sheet
   s = sheet_at l h g k
 
-  read_behind : (places : List ℤ) → 0 ≡ sheet_number l
-      → let a : Read = read_of s (read_state state) in
-      read_answer l h g k state places
-      ≡ answered (first_number a.refused.number (cond (leb 3 (length places)) 0 11)) (pos a.period ∷ pos a.gain ∷ pos a.symbols ∷ drop 3 places) places
+  -- what reading answers of the state that was read
+  abbrev read_told : List ℤ → Answer
+  read_told places =
+      let a : Read = read_of s (read_state state) in
+      answered (first_number a.refused.number (cond (leb 3 (length places)) 0 11)) (pos a.period ∷ pos a.gain ∷ pos a.symbols ∷ drop 3 places) places
+
+  pub read_behind : (places : List ℤ) → 0 ≡ sheet_number l → read_answer l h g k state places ≡ read_told places
   unfolding read_answer
   read_behind places read = go (eqb (state_number s state) 0) refl
     where
-      go : (b : Bool) → eqb (state_number s state) 0 ≡ b
-          → let a : Read = read_of s (read_state state) in
-          read_answer l h g k state places
-          ≡ answered (first_number a.refused.number (cond (leb 3 (length places)) 0 11)) (pos a.period ∷ pos a.gain ∷ pos a.symbols ∷ drop 3 places) places
+      go : (b : Bool) → eqb (state_number s state) 0 ≡ b → read_answer l h g k state places ≡ read_told places
       go true t = rw (← read, t, state-read s state (eqb-true _ 0 t)) refl
       go false t = simp (sym read, t, reading-number s state) refl
 
-  block_behind : (values out answer : List ℤ) → 0 ≡ sheet_number l
-      → let b : Block = block_of s (read_state state) values out in
+  -- what a block answers of it
+  abbrev block_told : List ℤ → List ℤ → List ℤ → BlockAnswer
+  block_told values out answer =
+      let b : Block = block_of s (read_state state) values out in
       let n : ℕ = first_number b.refused.number (cond (leb 4 (length answer)) 0 11) in
-      block_answer l h g k state values out answer
-      ≡ cond (eqb n 0)
+      cond (eqb n 0)
       (record { number = 0; state = numbers_of b.state; output = b.output; answer = pos b.count ∷ pos b.taken ∷ pos b.clips ∷ drop 3 answer })
       (record { number = n; state = state; output = out; answer = answer })
+
+  block_behind : (values out answer : List ℤ) → 0 ≡ sheet_number l → block_answer l h g k state values out answer ≡ block_told values out answer
   unfolding block_answer
   block_behind values out answer read = go (eqb (state_number s state) 0) refl
     where
-      go : (b : Bool) → eqb (state_number s state) 0 ≡ b
-          → let b : Block = block_of s (read_state state) values out in
-          let n : ℕ = first_number b.refused.number (cond (leb 4 (length answer)) 0 11) in
-          block_answer l h g k state values out answer
-          ≡ cond (eqb n 0)
-          (record { number = 0; state = numbers_of b.state; output = b.output; answer = pos b.count ∷ pos b.taken ∷ pos b.clips ∷ drop 3 answer })
-          (record { number = n; state = state; output = out; answer = answer })
+      go : (b : Bool) → eqb (state_number s state) 0 ≡ b → block_answer l h g k state values out answer ≡ block_told values out answer
       go true t = rw (← read, t, state-read s state (eqb-true _ 0 t)) refl
       go false t = simp (sym read, t, block-number s state values out) refl
 
@@ -137,16 +90,12 @@ module _ (l h g k : List ℤ) (state : Slices) where
       → read_answer l h g k state places ≡ record { number = (frontend_refusal e).number; places = places }
   read_refused places e read told = simp (read_behind places read, sym told, refuses (frontend_refusal e) (frontend-numbered e)) refl
 
-  pub read_short : (places : List ℤ) (period gain symbols : ℕ) → 0 ≡ sheet_number l
+  -- nothing refuses it, so what is written decides
+  pub read_done : (places : List ℤ) (period gain symbols : ℕ) {a : Answer} → 0 ≡ sheet_number l
       → ◌≡◌ {A = Read} (record { refused = nothing; period = period; gain = gain; symbols = symbols }) (read_of s (read_state state))
-      → length places < 3 → read_answer l h g k state places ≡ record { number = 11; places = places }
-  read_short places period gain symbols read told short = rw (read_behind places read, ← told, lt-leb 3 (length places) short) refl
-
-  pub read_made : (places : List ℤ) (period gain symbols : ℕ) → 0 ≡ sheet_number l
-      → ◌≡◌ {A = Read} (record { refused = nothing; period = period; gain = gain; symbols = symbols }) (read_of s (read_state state))
-      → 3 ≤ length places
-      → read_answer l h g k state places ≡ record { number = 0; places = pos period ∷ pos gain ∷ pos symbols ∷ drop 3 places }
-  read_made places period gain symbols read told long = rw (read_behind places read, ← told, le-leb 3 (length places) long) refl
+      → a ≡ answered (cond (leb 3 (length places)) 0 11) (pos period ∷ pos gain ∷ pos symbols ∷ drop 3 places) places
+      → a ≡ read_answer l h g k state places
+  read_done places period gain symbols read told wrote = wrote ∙ rw (read_behind places read, ← told) refl
 
   module _ (values out answer : List ℤ) (read : 0 ≡ sheet_number l) where
     abbrev block : Block
@@ -197,32 +146,7 @@ module _ (l h g k : List ℤ) (state : Slices) where
       let placed : has_places f ≡ true = ap (λ (b : Block). has_places b.state) told ∙ (left s (read_state state) values out none).placed in
       rw (long, placed) refl
 
-  pub block_counts : (values out : List ℤ) (f : Frontend) (taken count clips : ℕ) (o : List ℤ)
-      → ◌≡◌ {A = Block} (record { refused = nothing; state = f; taken = taken; count = count; clips = clips; output = o }) (block_of s (read_state state) values out)
-      → (count ≤ 9223372036854775807) × (taken ≤ 9223372036854775807) × (clips ≤ length out)
-  block_counts values out f taken count clips o told =
-      let none : (block_of s (read_state state) values out).refused.number ≡ 0 = ap (λ (b : Block). b.refused.number) (sym told) in
-      let leaves = left s (read_state state) values out none in (
-        omega (arith, leaves.counted, ap (λ (b : Block). b.count) told),
-        omega (arith, leaves.taken, ap (λ (b : Block). b.taken) told),
-        omega (arith, leaves.clipped, ap (λ (b : Block). b.clips) told),
-      )
-
--- three places, written one after the other
-pub three_written : (a b c : ℤ) (l : List ℤ) → 3 ≤ length l → set (set (set l 0 a) 1 b) 2 c ≡ a ∷ b ∷ c ∷ drop 3 l
-three_written a b c [] h = absurd (omega arith)
-three_written a b c (x ∷ []) h = absurd (omega arith)
-three_written a b c (x ∷ y ∷ []) h = absurd (omega arith)
-three_written a b c (x ∷ y ∷ z ∷ l) h = refl
-
 -- ---- a design
-
-pub design_refused : (rates : List Float) (fields h g k places : List ℤ) (e : SheetError) → 0 ≡ design_number rates fields
-    → refused (sheet_refusal e) ≡ sheet_of_design (design_at rates fields) (gains_at fields) h g k
-    → design_answer rates fields h g k places ≡ record { number = (sheet_refusal e).number; places = places }
-unfolding design_answer
-design_refused rates fields h g k places e read is =
-    simp (sym read, sym is, ne_eqb (sheet_refusal e).number 0 (λ z. absurd (omega (arith, sheet-numbered e)))) refl
 
 -- its sheet is written
 pub design_made : (rates : List Float) (fields h g k places : List ℤ) (p : Params) → 0 ≡ design_number rates fields
@@ -230,6 +154,3 @@ pub design_made : (rates : List Float) (fields h g k places : List ℤ) (p : Par
     → design_answer rates fields h g k places ≡ sheet_written p places
 unfolding design_answer sheet_written
 design_made rates fields h g k places p read is = rw (← read, ← is) refl
-
--- what a block answers and leaves
-pub ruleset blocks = (block_unread, block_refused, block_stopped, block_short, block_made, block_written, block_counts, three_written)

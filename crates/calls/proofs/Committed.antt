@@ -19,7 +19,7 @@ use Rattle.retune.specs.Retune.{commit_faults, retuned, Commit, commit_of}
 use Rattle.places.specs.Sheet.{sheet_number, sheet_numbers, sheet_written}
 use Rattle.places.specs.States.{Slices, first_numbers, state_fits, state_of, numbers_of}
 use Rattle.places.proofs.Readable.{are_state}
-use Rattle.places.proofs.Crossing.{states-cross}
+use Rattle.places.proofs.Crossing.{states_cross}
 use Rattle.calls.specs.Calls.{sheet_at, state_number, commit_answer}
 use Rattle.calls.proofs.NoState.{state-fits}
 
@@ -49,7 +49,7 @@ module _ (l : Slices) (fits : state_fits l ≡ true) (p : Params) where
   front : take 10 l.places ≡ first_numbers (state_of l)
   unfolding numbers_of
   front =
-      ap (λ (x : Slices). take 10 x.places) (sym (states-cross.again l fits))
+      ap (λ (x : Slices). take 10 x.places) (sym (states_cross.again l fits))
       ∙ take_at (first_numbers (state_of l)) (sheet_numbers (state_of l).params) 10 refl
 
   put : (ys : List ℤ) → ys ≡ sheet_numbers p → put_mid 10 count l.places ys ≡ (numbers_of (retuned p (state_of l))).places

@@ -9,7 +9,7 @@ use lib.Dec.{eqb, lit<}
 use lib.ListN.{length, take, length-append}
 use lib.Seq.{length-take-le}
 use lib.IntN.{ℤ}
-use borrow.Author.Tests.{ne_eqb}
+use borrow.Author.Tests.{ne_eqb, eqb-true}
 use Rattle.kinds.specs.Kinds.{at}
 use Rattle.kinds.proofs.OfKind.{count_small}
 use Rattle.params.specs.Refusal.{first_of}
@@ -18,7 +18,7 @@ use Rattle.state.specs.declared.Pair.{Pair}
 use Rattle.state.specs.declared.Frontend.{Frontend}
 use Rattle.fields.specs.Fields.{no_fields}
 use Rattle.state.specs.Start.{start_of, fresh}
-use Rattle.state.specs.Check.{state_faults, pairs_taken}
+use Rattle.state.specs.Check.{state_faults, block_faults, pairs_taken}
 use Rattle.state.specs.Read.{read_of}
 use Rattle.state.proofs.Answers.{Faultless, faultless}
 use Rattle.state.proofs.Going.{Going, going}
@@ -91,12 +91,15 @@ unfolding emitted
 few s f [] = omega arith
 few s f (x ∷ xs) = omega (arith, length-append (made_by s f x) (emitted s (next s f x) xs), made-few s f x, few s (next s f x) xs)
 
--- what a block without a refusal leaves
-pub record Left (b : Block) (places : ℕ) : Type 0 where
-  pub placed : has_places b.state ≡ true
+pub record Counts (b : Block) (places : ℕ) : Type 0 where
   pub taken : b.taken ≤ 9223372036854775807
   pub counted : b.count ≤ 9223372036854775807
   pub clipped : b.clips ≤ places
+
+-- what a block without a refusal leaves
+pub record Left (b : Block) (places : ℕ) : Type 0 where
+  pub placed : has_places b.state ≡ true
+  pub counts : Counts b places
 
 module _ (s : Sheet) (f : Frontend) (values out : List ℤ) where
   -- a number other than 0: nothing was written
@@ -122,7 +125,30 @@ module _ (s : Sheet) (f : Frontend) (values out : List ℤ) where
           waiting = omega (arith, to.waiting);
           samples = samples;
         });
-        taken = omega (arith, g.sizes.few);
-        counted = omega (arith, few s f xs, long, g.sizes.few);
-        clipped = omega (arith, rw (ran s f values out none) at (block-clips s f values out), few s f xs, long);
+        counts = record {
+          taken = omega (arith, g.sizes.few);
+          counted = omega (arith, few s f xs, long, g.sizes.few);
+          clipped = omega (arith, rw (ran s f values out none) at (block-clips s f values out), few s f xs, long);
+        };
       })
+
+  -- so its counts are signed numbers, and one that is refused counts nothing
+  small : Counts (block_of s f values out) (length out)
+  unfolding block_of
+  small = go (eqb (first_of (block_faults s f (length values) (length out))).number 0) refl
+    where
+      go : (b : Bool) → eqb (first_of (block_faults s f (length values) (length out))).number 0 ≡ b → Counts (block_of s f values out) (length out)
+      go true e = (left (number-first s f values out ∙ eqb-true _ 0 e)).counts
+      go false e = rw e (record { taken = omega arith; counted = omega arith; clipped = omega arith })
+
+  pub taken_small : (block_of s f values out).taken ≤ 9223372036854775807
+  taken_small = small.taken
+
+  pub count_few : (block_of s f values out).count ≤ 9223372036854775807
+  count_few = small.counted
+
+  pub clips_few : (block_of s f values out).clips ≤ length out
+  clips_few = small.clipped
+
+-- what no count of a block is above
+pub ruleset block_counts = (taken_small, count_few, clips_few)

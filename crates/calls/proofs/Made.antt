@@ -19,7 +19,7 @@ use Rattle.arith.proofs.Order.{fit-pn, minus-pn}
 use Rattle.arith.proofs.Modulus.{mod-is}
 use Rattle.kinds.specs.declared.Kind.TheVariants.{U8, U32, I32}
 use Rattle.kinds.specs.Kinds.{at, is_kind}
-use Rattle.kinds.proofs.OfKind.{own-u8, own-u32, u8_is, u32-is, i32-is}
+use Rattle.kinds.proofs.OfKind.{own, u8_is, u32-is, i32-is}
 use Rattle.kinds.proofs.Readable.{readable-at}
 use Rattle.params.specs.declared.Params.{Params}
 use Rattle.params.specs.Refusal.{Refusal, first_of}
@@ -35,7 +35,7 @@ use Rattle.places.specs.Sheet.{params_at, sheet_numbers}
 use Rattle.places.specs.Rates.{design_kinds, design_number, design_at, gains_at}
 use Rattle.places.specs.Crossing.{TypedSheet}
 use Rattle.places.proofs.Readable.{readable-design}
-use Rattle.places.proofs.Sheets.{sheets-cross}
+use Rattle.places.proofs.Sheets.{sheets_cross}
 use Rattle.kinds.specs.Answer.{first_number}
 use Rattle.kinds.proofs.Answered.{then_is}
 use Rattle.calls.specs.Calls.{judge_number, refused_by, written_by, design_answer}
@@ -86,10 +86,10 @@ module _ (rates : List Float) (fields : List ℤ) (e : design_number rates field
   field-kind n h = (readable-at design_kinds fields (readable-design rates fields e).kinds n h).is
 
   field-u8 : (n : ℕ) → is_kind U8 (at fields n) ≡ true → is_kind U8 (pos (nat_abs (at fields n))) ≡ true
-  field-u8 n is = subst (λ (z : ℤ). is_kind U8 z ≡ true) (sym (own-u8 (at fields n) is)) is
+  field-u8 n is = subst (λ (z : ℤ). is_kind U8 z ≡ true) (sym (own U8 (at fields n) refl is)) is
 
   field-u32 : (n : ℕ) → is_kind U32 (at fields n) ≡ true → is_kind U32 (pos (nat_abs (at fields n))) ≡ true
-  field-u32 n is = subst (λ (z : ℤ). is_kind U32 z ≡ true) (sym (own-u32 (at fields n) is)) is
+  field-u32 n is = subst (λ (z : ℤ). is_kind U32 z ≡ true) (sym (own U32 (at fields n) refl is)) is
 
   typed : (sps : Float) → TypedSheet (sheetMade (registers_of (design_at rates fields) sps) (gains_at fields))
   unfolding sheetMade registers_of design_at gains_at
@@ -154,12 +154,12 @@ judges : (p : Params) (h g k : List ℤ) → TypedSheet p → faults (sheet_of p
 unfolding judge_number judged
 judges p h g k t none =
     let number : (judged (sheet_of (params_at (sheet_numbers p)) h g k)).number ≡ 0 =
-    ap (λ (q : Params). (judged (sheet_of q h g k)).number) (sheets-cross.back p) ∙ ap (λ (rs : List Refusal). (first_of rs).number) none in
-    sym (then_is _ _ (sheets-cross.fit p t) (sym number))
+    ap (λ (q : Params). (judged (sheet_of q h g k)).number) (sheets_cross.back p) ∙ ap (λ (rs : List Refusal). (first_of rs).number) none in
+    sym (then_is _ _ (sheets_cross.fit p t) (sym number))
 
-pub made : DesignsCross
+pub designs_cross : DesignsCross
 unfolding design_answer sheet_numbers
-made rates fields h g k places e =
+designs_cross rates fields h g k places e =
     let d : Design = design_at rates fields in
     let a : Designed Params = sheet_of_design d (gains_at fields) h g k in
     let p : Params = sheetMade (registers_of d (sps_of d)) (gains_at fields) in
@@ -171,6 +171,6 @@ made rates fields h g k places e =
     ∙ ap (λ (x : Designed Params). take 18 (written_by x places)) pass.is
     ∙ take_at (sheet_numbers p) (drop 18 places) 18 refl in
     subst (Made rates fields h g k) (sym left) (record {
-      is = pass.is ∙ ap accepted (sym (sheets-cross.back p));
+      is = pass.is ∙ ap accepted (sym (sheets_cross.back p));
       judges = judges p h g k (typed rates fields read.0 (sps_of d)) pass.faultless;
     })

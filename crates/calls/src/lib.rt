@@ -3,21 +3,36 @@
 // No call asks anything of its caller: whatever is lent, it answers, with an error where something is wrong, and then it has touched no place.
 // 18 and 19 refuse a sheet or a design that cannot be read, before 14 to 17 and the judge's 1 to 8 and 29; slices that are no state are refused by 9, after
 // the judge's. A sheet is lent as its places and three banks, and a state as three slices: its places, its line and its errors (crates/places). C lends them
-// one by one, so each call takes them so, and makes one value of them.
+// one by one, so each call takes them so, and makes one value of them in its first lines: a helper would take as many arguments as it saves fields.
 #![tactic(auto)]
 
+mod claims;
 mod refusal;
 
-ghost use Rattle.std.specs.Prelude.{◌≡◌, IfOk};
-ghost use Rattle.kinds.specs.Answer.{answer_number};
+ghost use Rattle.std.specs.Prelude.{◌≡◌, ◌++◌, cond, leb, length, drop, IfOk};
+ghost use Rattle.kinds.specs.Answer.{answered, answer_number};
+ghost use Rattle.places.specs.Refusal.{places_refusal};
 ghost use Rattle.places.specs.States.{slices, state_of};
 ghost use Rattle.calls.specs.Refusal.{call_number};
 ghost use Rattle.calls.specs.Calls.{judge_number, start_answer, state_number, block_answer, read_answer, ask_answer, commit_answer, offset_answer, design_answer};
 
+pub use claims::designs_cross;
 use params::Sheet;
 use places::{PlacesError, Slices};
 pub use refusal::CallError;
 use state::Frontend;
+
+// Writes numbers to the first places of an answer, where it has so many.
+fn put(numbers: &[i64], answer: &mut [i64]) -> Result<(), PlacesError>
+    ensures { record { number = answer_number places_refusal result; places = answer.new }
+        ≡ answered (cond (leb (length numbers.now) (length answer.old)) 0 11) (numbers.now ++ drop (length numbers.now) answer.old) answer.old }
+{
+    if answer.len() < numbers.len() {
+        return Err(PlacesError::Short);
+    }
+    answer[..numbers.len()].copy_from_slice(numbers);
+    Ok(())
+}
 
 // Judging (RULES 1.4).
 #[tactic(auto, using(crate::proofs::Numbers::numbered), unfolding(crate::specs::Calls::judge_number))]
@@ -31,7 +46,7 @@ pub fn judge(sheet: &[i64], h: &[i32], g: &[i32], k: &[i32]) -> Result<(), CallE
 }
 
 // Writes the fresh state of a sheet (RULES 3.1).
-#[tactic(auto, using(crate::proofs::Answers::start_unread, crate::proofs::Answers::start_refused, crate::proofs::Answers::start_made))]
+#[tactic(auto, using(crate::proofs::Answers::started), unfolding(crate::specs::Calls::start_answer, places::specs::States::state_written))]
 pub fn start(
     sheet: &[i64],
     h: &[i32],
@@ -53,7 +68,7 @@ pub fn start(
 
 // Takes a block of samples, I before Q, from the state on, as many of them as the output has places for; writes 20 places a symbol, the state after it, and
 // how many symbols it wrote, pairs it took and clips it counted to the first three of four places (RULES 4).
-#[tactic(auto, using(crate::proofs::Answers::blocks))]
+#[tactic(auto, using(crate::proofs::Numbers::numbered, crate::proofs::Fitting::block_counts), unfolding(crate::specs::Calls::block_answer))]
 pub fn block(
     sheet: &[i64],
     h: &[i32],
@@ -89,16 +104,17 @@ pub fn block(
         return Err(CallError::Places(PlacesError::Short));
     }
     let done = fixed::process(&mut f, &sheet, values, out)?;
-    // It writes: the slices are as long as a state, and 12 refuses the block after which a count has no place.
+    // Both write: the slices are as long as a state, 12 refuses the block after which a count has no place, and the answer has four places.
     places::write_state(&f, state, line, errors)?;
-    answer[0] = done.count as i64;
-    answer[1] = done.taken as i64;
-    answer[2] = done.clips as i64;
+    put(
+        &[done.count as i64, done.taken as i64, done.clips as i64],
+        answer,
+    )?;
     Ok(())
 }
 
 // Writes period, gain and symbols of a state to three places (RULES 4.3).
-#[tactic(auto, using(crate::proofs::Answers::read_unread, crate::proofs::Answers::read_refused, crate::proofs::Answers::read_short, crate::proofs::Answers::read_made, crate::proofs::Answers::three_written, crate::proofs::Fitting::read_small))]
+#[tactic(auto, using(crate::proofs::Numbers::numbered, crate::proofs::Fitting::read_small), unfolding(crate::specs::Calls::read_answer))]
 pub fn read(
     sheet: &[i64],
     h: &[i32],
@@ -120,12 +136,14 @@ pub fn read(
         errors,
     };
     let reading = lent.read().read(&Sheet { params, h, g, k })?;
-    if answer.len() < 3 {
-        return Err(CallError::Places(PlacesError::Short));
-    }
-    answer[0] = i64::from(reading.period);
-    answer[1] = i64::from(reading.gain);
-    answer[2] = reading.symbols as i64;
+    put(
+        &[
+            i64::from(reading.period),
+            i64::from(reading.gain),
+            reading.symbols as i64,
+        ],
+        answer,
+    )?;
     Ok(())
 }
 
@@ -167,10 +185,7 @@ pub fn ask(
     };
     let f = state_of(&sheet, &lent)?;
     let ticket = retune::ask(&f, &sheet)?;
-    if answer.is_empty() {
-        return Err(CallError::Places(PlacesError::Short));
-    }
-    answer[0] = ticket as i64;
+    put(&[ticket as i64], answer)?;
     Ok(())
 }
 
@@ -219,15 +234,12 @@ pub fn offset(
 {
     let params = places::read_sheet(sheet)?;
     let parts = offset::of_period(&Sheet { params, h, g, k }, period)?;
-    if answer.is_empty() {
-        return Err(CallError::Places(PlacesError::Short));
-    }
-    answer[0] = parts;
+    put(&[parts], answer)?;
     Ok(())
 }
 
 // Writes the sheet of a design to the first 18 places (RULES 6.4). The design comes as five rates and eight fields.
-#[tactic(auto, using(crate::proofs::Answers::design_unread, crate::proofs::Answers::design_refused, crate::proofs::Answers::design_made))]
+#[tactic(auto, using(crate::proofs::Numbers::numbered, crate::proofs::Answers::design_made), unfolding(crate::specs::Calls::design_answer))]
 pub fn design(
     rates: &[f64],
     fields: &[i64],

@@ -22,6 +22,8 @@ pub enum CallError {
     Places(PlacesError),
 }
 
+// Seven impls by hand: the gate refuses an impl that a macro of the repository writes.
+
 impl From<FieldError> for CallError {
     ghost from_gives = { λ e f. f ≡ CallError.Fields e };
 

@@ -45,7 +45,7 @@ pub struct DesignRegisters {
 }
 
 // The fields of a sheet that a design leaves open: the loop's two gains with their shifts, and the shift of the output.
-#[derive(Clone, Copy)]
+#[derive(Clone, Copy, Default)]
 pub struct Gains {
     pub kp: i16,
     pub kp_shift: u8,
@@ -120,7 +120,7 @@ impl SheetError {
 
 // ---- a design, judged
 
-// 14. The first test refuses a NaN.
+// 14. Two tests and not `contains`: so it shows that the first refuses a NaN.
 #[tactic(auto, using(crate::proofs::Literals::literals), unfolding(crate::specs::Design::good_sps))]
 fn is_good_sps(sps: f64) -> bool
     ensures { result ≡ good_sps sps }
@@ -135,7 +135,7 @@ fn is_good_bits(bits: u8) -> bool
     (2..=8).contains(&bits)
 }
 
-// 17. The first test refuses a NaN.
+// 17. The first test refuses a NaN here too.
 #[tactic(auto, using(crate::proofs::Literals::literals), unfolding(crate::specs::Design::good_trim))]
 fn is_good_trim(trim: f64) -> bool
     ensures { result ≡ good_trim trim }
@@ -175,7 +175,7 @@ impl Design {
     }
 
     // The whole sheet of a design, judged with its banks (RULES 6.4). A design that is accepted says nothing of its sheet: at 3.95 samples a symbol the largest
-    // period is past its bound.
+    // period is past its bound. The banks come one by one: the sheet that they are of is made here.
     #[tactic(auto, using(crate::proofs::Answers::answers))]
     pub fn params(self, gains: Gains, h: &[i32], g: &[i32], k: &[i32]) -> Result<Params, SheetError>
         ensures { sheet_answer result ≡ sheet_of_design self gains h.now g.now k.now }

@@ -6,7 +6,8 @@ ghost use Rattle.fields.specs.Fields.{no_fields, same_fields};
 
 use params::Params;
 
-// What stands in place of a sheet where there is none: 0 in every field.
+// What stands in place of a sheet where there is none: 0 in every field. The derived default has that value too; this has a contract that names `no_fields`,
+// as callers' contracts do.
 pub fn none() -> Params
     ensures { result ≡ no_fields }
 {

@@ -4,6 +4,7 @@ pub mod Runs
 pub mod Clips
 pub mod Refused
 pub mod States
+pub mod Mixer
 pub mod OneStep
 pub mod Paired
 pub mod Parts

@@ -18,6 +18,6 @@ can-make p f good soon room =
     and_both (and_both (and_both (ap (le_z (pos 0)) g.whole ∙ le-leb 0 (time f) (omega arith)) soon) (and_both g.loop.v.low g.loop.v.high))
     (lt-ltb f.registers.symbols 18446744073709551615 (omega (arith, g.few, room)))
 
-pub one-step : OneStep
+pub one_step : OneStep
 unfolding after_symbol due with_symbol
-one-step s f good soon room = rw (can-make s.params f good soon room) refl
+one_step s f good soon room = rw (can-make s.params f good soon room) refl

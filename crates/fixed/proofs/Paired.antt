@@ -48,9 +48,6 @@ pub record Laying (value : ℕ → ℤ) (n : ℕ) (raised : List ℕ) : Type 0 w
   pub stands : (m : ℕ) → m < n → lowered (get_or raised m 0) ≡ value m
   pub small : In32 n raised
 
-pub laying-none : (value : ℕ → ℤ) (raised : List ℕ) → length raised ≡ 64 → Laying value 0 raised
-laying-none value raised e = record { long = e; stands = λ m h. absurd (omega arith); small = λ m h. absurd (omega arith) }
-
 -- a number that stands for the next value joins them
 pub laying-next : {value : ℕ → ℤ} {n : ℕ} {raised : List ℕ} → Laying value n raised → (x : ℕ) → lowered x ≡ value n → x < 4294967296 → n < 64
     → Laying value (n + 1) (set raised n x)

@@ -1,15 +1,12 @@
 -- What holds of a state that a sample can be pushed on: its time and its queue are within their bounds, a symbol that falls due changes the registers as one
 -- step, and the state with the sample joined is such a state too.
-use Rattle.std.proofs.Common.{◌≡◌, ℕ, ◌*◌, ◌^◌, ◌<◌, ◌≤◌, Bool, true, false, cond, [], ◌∷◌, Option, Some, None, is_some, ℤ, pos, nat_abs, sym, refl, ap, ◌∙◌, arith, ltb-true}
+use Rattle.std.proofs.Common.{◌≡◌, ◌<◌, ◌≤◌, Bool, true, false, cond, [], ◌∷◌, Option, Some, None, is_some, ℤ, sym, refl, ap, ◌∙◌, arith, ltb-true}
 use lib.Signed.{lt_z}
-use Rattle.arith.proofs.Tested.{between-abs}
 use Rattle.params.specs.declared.Params.{Params}
 use Rattle.params.specs.Judge.{Sheet}
-use Rattle.params.proofs.Accepted.{GoodFields, Accepted, judged-none, no-faults}
+use Rattle.params.proofs.Accepted.{Accepted, judged-none, no-faults}
 use Rattle.registers.specs.declared.Pending.{Pending}
-use Rattle.registers.specs.Correct.{integrator_end}
 use Rattle.registers.specs.Step.{one, found, left, errors_of, after_symbol}
-use Rattle.registers.proofs.Loops.{Loop, Within}
 use Rattle.state.specs.declared.Pair.{Pair}
 use Rattle.state.specs.declared.Frontend.{Frontend}
 use Rattle.state.specs.Start.{ring_places}
@@ -18,16 +15,7 @@ use Rattle.fixed.specs.Queue.{oldest_due, oldest_errors}
 use Rattle.fixed.specs.Sample.{due, joined, with_symbol, without_symbol, falls, symbol_of, next, made_by}
 use Rattle.fixed.specs.Inside.{Ready}
 use Rattle.fixed.proofs.States.{due-within, joined-going}
-use Rattle.fixed.proofs.OneStep.{one-step}
-
--- an integrator within its ends leaves room to be moved
-v-small : (p : Params) (l : Loop) → GoodFields p → Within p l → nat_abs l.v ≤ 2 ^ 61
-v-small p l f w = go f.integrator.0 f.integrator.1 f.integrator.2
-  where
-    go : (n : ℕ) → p.integrator_max ≡ pos n → n ≤ 4194303 → nat_abs l.v ≤ 2 ^ 61
-    go n e h =
-        let is : integrator_end p ≡ pos (n * 65536) = rw e refl in
-        omega (arith, between-abs (pos (n * 65536)) l.v (rw is at w.v.low) (rw is at w.v.high))
+use Rattle.fixed.proofs.OneStep.{one_step}
 
 module _ {s : Sheet} {f : Frontend} (ready : Ready s f) where
   abbrev p : Params
@@ -50,7 +38,7 @@ module _ {s : Sheet} {f : Frontend} (ready : Ready s f) where
   -- the step on the registers, as the code makes it
   pub step_is : falls f ≡ true → after_symbol p f.registers (oldest_due p f) (oldest_errors f) ≡ record { registers = left (due p f); made = true }
   unfolding with_symbol
-  step_is e = one-step s f ready.good e (omega (arith, ready.room))
+  step_is e = one_step s f ready.good e (omega (arith, ready.room))
 
   -- the errors that are due, as the code hands them on
   abbrev pub due_errors : Option Pending

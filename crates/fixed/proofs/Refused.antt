@@ -31,7 +31,8 @@ module _ (s : Sheet) (f : Frontend) (values out : List ℤ) where
 
 -- ---- what the code's answer tells
 
-pub refused_block : (s : Sheet) (f : Frontend) (values out : List ℤ) (e : FrontendError) → frontend_refusal e ≡ first_of (block_faults s f (length values) (length out))
+pub refused_block : (s : Sheet) (f : Frontend) (values out : List ℤ) (e : FrontendError)
+    → frontend_refusal e ≡ first_of (block_faults s f (length values) (length out))
     → block_of s f values out ≡ record { refused = frontend_refusal e; state = f; taken = 0; count = 0; clips = 0; output = out }
 unfolding block_of
 refused_block s f values out e told = rw (sym told, refuses (frontend_refusal e) (frontend-numbered e)) refl

@@ -43,8 +43,10 @@ module _ {h g k : List ℤ} {i q : List ℕ} (lent : Filterable h g k) (line : L
   share row e =
       let at_low : first ≡ low row = cut.first-is ∙ ap (λ (n : ℕ). (n - 8) / 2) (sym e) in
       let at_high : last ≡ low row + wide row = cut.last-is ∙ (λ t. at_low t + min 8 (sym e t)) in
-      let begins : min (max (low row) from) (from + count) ≡ begin = sym (cut.begins ∙ held-within first from count ∙ ap (λ (n : ℕ). min (max n from) (from + count)) at_low) in
-      let ends : min (max (low row + wide row) from) (from + count) ≡ end = sym (cut.ends ∙ held-within last from count ∙ ap (λ (n : ℕ). min (max n from) (from + count)) at_high) in
+      let begins : min (max (low row) from) (from + count) ≡ begin =
+      sym (cut.begins ∙ held-within first from count ∙ ap (λ (n : ℕ). min (max n from) (from + count)) at_low) in
+      let ends : min (max (low row + wide row) from) (from + count) ≡ end =
+      sym (cut.ends ∙ held-within last from count ∙ ap (λ (n : ℕ). min (max n from) (from + count)) at_high) in
       subst (λ (n : ℕ). Share (low row) (low row + wide row) from (from + count) n end) begins
       (subst (λ (n : ℕ). Share (low row) (low row + wide row) from (from + count) (min (max (low row) from) (from + count)) n) ends
       (share-is (low row) (low row + wide row) from (from + count) (omega arith) (omega arith)))

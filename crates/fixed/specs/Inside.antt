@@ -11,6 +11,7 @@ use Rattle.state.specs.Check.{good_state}
 use Rattle.fixed.specs.declared.filter.Detected.{Detected}
 use Rattle.fixed.specs.declared.filter.Raised.{Raised}
 use Rattle.fixed.specs.declared.filter.Summed.{Summed}
+use Rattle.fixed.specs.declared.sample.Rings.{Rings}
 use Rattle.fixed.specs.declared.sample.Running.{Running}
 use Rattle.fixed.specs.Raised.{lowered, In32}
 use Rattle.fixed.specs.Rows.{ThreeRows}
@@ -102,14 +103,21 @@ pub record RunAdds (rows : ThreeRows) (line : List Pair) (from place count : ℕ
 
 -- ---- a block while it runs
 
--- The state that a running block stands for, under a sheet of these fields.
-abbrev pub state_of : Params → Running → Frontend
-state_of p x = record {
+-- A state, taken apart: its rings, and its numbers but for the sheet's.
+abbrev pub rings_of : Frontend → Rings
+rings_of f = record { line = f.line; pending = f.pending }
+
+abbrev pub running_of : Frontend → Running
+running_of f = record { registers = f.registers; head = f.head; queue = record { oldest = f.oldest; waiting = f.waiting }; samples = f.samples }
+
+-- And put together, under a sheet of these fields: the state that a running block stands for.
+abbrev pub state_of : Params → Running → Rings → Frontend
+state_of p x rings = record {
   params = p;
   registers = x.registers;
-  line = x.line.pairs;
-  head = x.line.head;
-  pending = x.queue.places;
+  line = rings.line;
+  head = x.head;
+  pending = rings.pending;
   oldest = x.queue.oldest;
   waiting = x.queue.waiting;
   samples = x.samples;

@@ -16,8 +16,3 @@ unfoldable pub paired : List ℕ → List ℕ → List Pair
 paired [] q = []
 paired (x ∷ i) [] = []
 paired (x ∷ i) (y ∷ q) = record { i = lowered x; q = lowered y } ∷ paired i q
-
--- A line as a state has it: its pairs, and the newest's place.
-pub record Placed : Type 0 where
-  pub pairs : List Pair
-  pub head : ℕ

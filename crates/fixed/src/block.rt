@@ -7,11 +7,12 @@ ghost use Rattle.params.specs.Refusal.{nothing};
 ghost use Rattle.state.specs.Check.{good_state};
 ghost use Rattle.fixed.specs.Sample.{after, emitted};
 ghost use Rattle.fixed.specs.Block.{pairs_of};
-ghost use Rattle.fixed.specs.Inside.{state_of, Writes};
+ghost use Rattle.fixed.specs.Inside.{running_of, rings_of, state_of, Writes};
 
 use crate::line::Line;
+use crate::mix::{Sample, Wheel};
 use crate::queue::Queue;
-use crate::sample::Running;
+use crate::sample::{Rings, Running};
 use params::Sheet;
 use state::Frontend;
 
@@ -22,16 +23,27 @@ pub(crate) struct Written {
     pub(crate) clips: usize,
 }
 
+impl Rings {
+    // The rings of a state.
+    pub(crate) fn of(f: &Frontend) -> Rings
+        ensures { result ≡ rings_of f.now }
+    {
+        Rings {
+            line: Line::raised(&f.line),
+            pending: f.pending,
+        }
+    }
+}
+
 impl Running {
-    // A state, taken apart.
+    // Its numbers, but for the sheet's.
     pub(crate) fn of(f: &Frontend) -> Running
-        ensures { state_of f.now.params result ≡ f.now }
+        ensures { result ≡ running_of f.now }
     {
         Running {
             registers: f.registers,
-            line: Line::raised(&f.line, f.head),
+            head: f.head,
             queue: Queue {
-                places: f.pending,
                 oldest: f.oldest,
                 waiting: f.waiting,
             },
@@ -40,33 +52,45 @@ impl Running {
     }
 
     // And put together again.
-    pub(crate) fn put(&self, f: &mut Frontend)
-        ensures { f.new ≡ state_of f.old.params self.now }
+    pub(crate) fn put(&self, rings: &Rings, f: &mut Frontend)
+        ensures { f.new ≡ state_of f.old.params self.now rings.now }
     {
         f.registers = self.registers;
-        f.line = self.line.lowered();
-        f.head = self.line.head;
-        f.pending = self.queue.places;
+        f.line = rings.line.lowered();
+        f.head = self.head;
+        f.pending = rings.pending;
         f.oldest = self.queue.oldest;
         f.waiting = self.queue.waiting;
         f.samples = self.samples;
     }
 
     // All samples of a block.
-    pub(crate) fn run(&mut self, sheet: &Sheet<'_>, values: &[i16], out: &mut [i64]) -> Written
+    pub(crate) fn run(
+        &mut self,
+        rings: &mut Rings,
+        sheet: &Sheet<'_>,
+        values: &[i16],
+        out: &mut [i64],
+    ) -> Written
         requires accepted { judged sheet.now ≡ nothing }
-        requires good { good_state sheet.now.params (state_of sheet.now.params self.old) ≡ true }
+        requires good { good_state sheet.now.params (state_of sheet.now.params self.old rings.old) ≡ true }
         requires room { (20 * (length values.now / 2) ≤ length out.old) × (self.old.samples + length values.now / 2 ≤ 9223372036854775807) }
-        ensures state { state_of sheet.now.params self.new ≡ after sheet.now (state_of sheet.now.params self.old) (pairs_of values.now) }
-        ensures written { Writes (emitted sheet.now (state_of sheet.now.params self.old) (pairs_of values.now)) out.old out.new result.count result.clips }
+        ensures state { state_of sheet.now.params self.new rings.new ≡ after sheet.now (state_of sheet.now.params self.old rings.old) (pairs_of values.now) }
+        ensures written { Writes (emitted sheet.now (state_of sheet.now.params self.old rings.old) (pairs_of values.now))
+            out.old out.new result.count result.clips }
     {
-        let cos = tables::cos_table();
+        let wheel = Wheel::new();
         let mut count = 0;
         let mut clips = 0;
+        // By number, since the definitions count pairs; of a chunk its two places would be read just so.
         for n in 0..values.len() / 2 {
-            if let Some(y) = self.push(sheet, &cos, values[2 * n], values[2 * n + 1]) {
+            let sample = Sample {
+                i: values[2 * n],
+                q: values[2 * n + 1],
+            };
+            if let Some(y) = self.push(rings, sheet, &wheel, sample) {
                 count = y.put(count, &mut *out);
-                clips += y.clips as usize;
+                clips += usize::from(y.clips);
             }
         }
         Written { count, clips }

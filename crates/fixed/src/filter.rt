@@ -11,7 +11,7 @@ ghost use Rattle.std.specs.Prelude.{◌≡◌, ◌+◌, ◌<◌, ◌≤◌, [], 
 ghost use Rattle.fixed.specs.Filter.{sums_of};
 ghost use Rattle.fixed.specs.Rows.{Row};
 ghost use Rattle.fixed.specs.Inside.{Beside, SumsUpto, DetectedUpto, RaisedUpto, SummedUpto, one_tap_more, unraised_sums};
-ghost use Rattle.fixed.specs.Inside.{none_summed, Detects, Outputs, RunAdds};
+ghost use Rattle.fixed.specs.Inside.{Detects, Outputs, RunAdds};
 
 use crate::line::{self, Line};
 use std::marker::Model;
@@ -38,7 +38,7 @@ impl<'a> Model for Rows<'a> {
 // ---- rows of h and g
 
 // The sums of a row of h and one of g, as far as they are taken.
-#[derive(Clone, Copy)]
+#[derive(Clone, Copy, Default)]
 struct Detected {
     h: Sums,
     g: Sums,
@@ -50,14 +50,14 @@ fn with_products(s: Sums, c: i32, x: i64, y: i64) -> Sums
     requires c_bound { (unsigned_abs c ≤ 131071) × ((unsigned_abs x ≤ 2147483648) × (unsigned_abs y ≤ 2147483648)) }
     ensures { result ≡ record { i = s.i +ℤ c *ℤ x; q = s.q +ℤ c *ℤ y } }
 {
-    let k = c as i64;
+    let k = i64::from(c);
     Sums {
         i: s.i + k * x,
         q: s.q + k * y,
     }
 }
 
-// The two rows meet the same numbers of the line, so one pass takes both.
+// The two rows meet the same numbers of the line, so one pass takes both. By a number, as it is one place in four slices; zips of zips say it no plainer.
 fn detector_run(before: Detected, h: &[i32], g: &[i32], i: &[u64], q: &[u64]) -> Detected
     requires row { Row h.now × (Row g.now × (length g.now ≡ length h.now)) }
     requires beside { Beside (length h.now) i.now q.now × DetectedUpto 64 before }
@@ -77,7 +77,7 @@ fn detector_run(before: Detected, h: &[i32], g: &[i32], i: &[u64], q: &[u64]) ->
 // ---- a row of k
 
 // The sums of its raised coefficients times the line's numbers, of the coefficients themselves, and of the numbers, as far as they are taken.
-#[derive(Clone, Copy)]
+#[derive(Clone, Copy, Default)]
 struct Raised {
     i: u64,
     q: u64,
@@ -93,7 +93,7 @@ fn with_tap(s: Raised, c: i32, x: u64, y: u64) -> Raised
     requires c_bound { (unsigned_abs c ≤ 131071) × ((x < 4294967296) × (y < 4294967296)) }
     ensures { result ≡ one_tap_more s c x y }
 {
-    let k = (c + 131072) as u32 as u64;
+    let k = u64::from((c + 131072) as u32);
     Raised {
         i: s.i + k * (x % 0x1_0000_0000),
         q: s.q + k * (y % 0x1_0000_0000),
@@ -103,6 +103,7 @@ fn with_tap(s: Raised, c: i32, x: u64, y: u64) -> Raised
     }
 }
 
+// By a number here too: three slices.
 fn output_run(before: Raised, k: &[i32], i: &[u64], q: &[u64]) -> Raised
     requires { Row k.now × (Beside (length k.now) i.now q.now × RaisedUpto 64 before) }
     ensures { Outputs k.now i.now q.now before result }
@@ -115,11 +116,12 @@ fn output_run(before: Raised, k: &[i32], i: &[u64], q: &[u64]) -> Raised
 }
 
 // The row's sums without what the raising has added.
+#[tactic(auto, using(std::proofs::lemmas::Int::ints))]
 fn unraised(s: Raised) -> Sums
     requires { RaisedUpto 64 s }
     ensures { result ≡ unraised_sums s }
 {
-    let raised = (s.coefficients as i64) * 0x8000_0000;
+    let raised = i64::from(s.coefficients) * 0x8000_0000;
     Sums {
         i: s.i as i64 - (s.line_i * 0x2_0000) as i64 - raised,
         q: s.q as i64 - (s.line_q * 0x2_0000) as i64 - raised,
@@ -129,26 +131,10 @@ fn unraised(s: Raised) -> Sums
 // ---- the runs
 
 // What the runs so far have summed.
-#[derive(Clone, Copy)]
+#[derive(Clone, Copy, Default)]
 struct Summed {
     detected: Detected,
     output: Raised,
-}
-
-fn nothing_summed() -> Summed
-    ensures { result ≡ none_summed }
-{
-    let none = Sums { i: 0, q: 0 };
-    Summed {
-        detected: Detected { h: none, g: none },
-        output: Raised {
-            i: 0,
-            q: 0,
-            coefficients: 0,
-            line_i: 0,
-            line_q: 0,
-        },
-    }
 }
 
 // One run: `count` coefficients of each row, from number `from` on, over as many places of the line, from `place` on. Outside the detector's places the rows
@@ -163,7 +149,7 @@ fn line_run(
 ) -> Summed
     requires summed_upto { SummedUpto 64 before }
     requires count_in_bounds { (from + count ≤ length rows.now.k) × (place + count ≤ length rows.now.k) }
-    ensures { RunAdds rows.now line.now.pairs from place count before result }
+    ensures { RunAdds rows.now line.now from place count before result }
 {
     let d = params::detector_of(rows.k.len());
     let to = from + count;
@@ -188,16 +174,15 @@ fn line_run(
     Summed { detected, output }
 }
 
-// The sums of h, g and k, each a row, over the line from its newest number on.
-pub(crate) fn filter(rows: &Rows<'_>, line: &Line) -> [Sums; 3]
-    requires { line.now.head < length rows.now.k }
-    ensures { result ≡ sums_of (length rows.now.k) rows.now.h line.now.pairs line.now.head
-        ∷ sums_of (length rows.now.k) rows.now.g line.now.pairs line.now.head
-        ∷ sums_of (length rows.now.k) rows.now.k line.now.pairs line.now.head ∷ [] }
+// The sums of h, g and k, each a row, over the line from its newest number on, which stands at `head`.
+pub(crate) fn filter(rows: &Rows<'_>, line: &Line, head: usize) -> [Sums; 3]
+    requires { head < length rows.now.k }
+    ensures { result ≡ sums_of (length rows.now.k) rows.now.h line.now head
+        ∷ sums_of (length rows.now.k) rows.now.g line.now head
+        ∷ sums_of (length rows.now.k) rows.now.k line.now head ∷ [] }
 {
-    let head = line.head;
     let cut = rows.k.len() - head;
-    let first = line_run(nothing_summed(), rows, line, 0, head, cut);
+    let first = line_run(Summed::default(), rows, line, 0, head, cut);
     let both = line_run(first, rows, line, cut, 0, head);
     let detected = both.detected;
     [detected.h, detected.g, unraised(both.output)]

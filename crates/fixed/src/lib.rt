@@ -28,6 +28,7 @@
 #![tactic(auto)]
 
 mod block;
+mod claims;
 mod filter;
 mod line;
 mod mix;
@@ -38,7 +39,8 @@ ghost use Rattle.std.specs.Prelude.{◌≡◌, [], length, Ok};
 ghost use Rattle.state.specs.Check.{block_faults};
 ghost use Rattle.fixed.specs.Block.{accepted, block_of, processed};
 
-use crate::sample::Running;
+use crate::sample::{Rings, Running};
+pub use claims::{one_step, two_runs};
 use params::Sheet;
 use state::{Frontend, FrontendError};
 
@@ -65,6 +67,19 @@ pub fn process(
     Ok(run(f, sheet, values, out))
 }
 
+// The sheet, in a place of the block's own: what is written to `out` can't change it there, so the compiler reads its fields once a block, and not once a
+// symbol.
+fn own_sheet<'a>(sheet: &Sheet<'a>) -> Sheet<'a>
+    ensures { result ≡ sheet.now }
+{
+    Sheet {
+        params: sheet.params,
+        h: sheet.h,
+        g: sheet.g,
+        k: sheet.k,
+    }
+}
+
 // A block that nothing refuses: it goes through those samples that have places for a symbol. The sheet given is the held one, or 9 had refused it: so the
 // state goes on holding its own.
 fn run(f: &mut Frontend, sheet: &Sheet<'_>, values: &[i16], out: &mut [i64]) -> Processed
@@ -72,9 +87,11 @@ fn run(f: &mut Frontend, sheet: &Sheet<'_>, values: &[i16], out: &mut [i64]) -> 
     ensures { processed (Ok result) f.new out.new ≡ accepted sheet.now f.old values.now out.old }
 {
     let taken = state::pairs_taken(values.len(), out.len());
+    let sheet = own_sheet(sheet);
     let mut running = Running::of(f);
-    let written = running.run(sheet, &values[..2 * taken], out);
-    running.put(f);
+    let mut rings = Rings::of(f);
+    let written = running.run(&mut rings, &sheet, &values[..2 * taken], out);
+    running.put(&rings, f);
     Processed {
         taken,
         count: written.count,

@@ -1,7 +1,8 @@
 // Floats as whole numbers: cut toward zero or rounded, and held to an integer type.
 //
 // The language casts a float only where nothing is lost. These casts lose what Rust's lose: the fraction, what lies past an end of the type, and a NaN, which
-// becomes 0. Every function here is total.
+// becomes 0. Every function here is total. Each is one call of the library's, by a name for each rounding and type: a function over the type would need a
+// trait of its own to choose that call.
 #![tactic(auto)]
 
 ghost use Rattle.std.specs.Prelude.{◌≡◌};

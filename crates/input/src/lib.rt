@@ -22,6 +22,7 @@ pub enum SampleError {
 }
 
 impl SampleError {
+    // One form for all errors: those that hold something have no discriminant to cast.
     pub fn number(self) -> u32
         ensures { result ≡ sample_number self }
     {

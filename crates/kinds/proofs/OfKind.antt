@@ -1,79 +1,41 @@
--- Numbers of a kind: they fit the kind's type, and those that fit are of it; places that were looked at one after the other have each their kind.
--- Places can be looked at in two parts.
+-- Numbers of a kind: where its least is 0 they have no sign, and those that fit the type are of it. Places that were looked at have each their kind, and
+-- can be looked at in two parts.
 use Prim.Native.Nat.{ℕ, zero, suc, ◌+◌, ◌<◌, ◌≤◌}
 use mathlib.Core.Path.{◌≡◌, refl, sym, ap, ◌∙◌}
 use mathlib.Core.Bool.{Bool, true, false, ◌&&◌, and-true, and-false, and_assoc, false≢true}
 use mathlib.Core.List.{List, [], ◌∷◌, ◌++◌}
 use native.Mathlib.Omega.{arith}
-use lib.Dec.{T}
 use lib.ListN.{length, get_or, take, drop}
 use lib.Seq.{drop-cons}
-use lib.IntN.{ℤ, pos, nat_abs}
-use lib.Signed.{le_z, non_neg, pos-nat_abs}
-use mir.Syntax.{Width, w8, w16, w32, w64}
-use mir.Val.{Fits, SFits}
+use lib.IntN.{ℤ, pos, negsuc, nat_abs}
+use Rattle.std.proofs.lemmas.Int.{ints}
 use Rattle.arith.proofs.Both.{and_left, and_right, and_both}
-use Rattle.arith.proofs.Order.{pos_part, neg_part, nat-pn, le-pn, pn-le, pn-fit, unsign}
+use Rattle.arith.proofs.Order.{pos_part, neg_part, pn-le}
 use Rattle.kinds.specs.declared.Kind.{Kind}
-use Rattle.kinds.specs.declared.Kind.TheVariants.{U8, U32, I16, I32, Count}
+use Rattle.kinds.specs.declared.Kind.TheVariants.{U8, U32, I32, Count}
 use Rattle.kinds.specs.Kinds.{at, least_of, most_of, is_kind, are_kinds, KindAt}
 
--- ---- a number of a kind fits the type
+-- ---- a number of a kind
 
-at_least : (kind : Kind) (z : ℤ) → is_kind kind z ≡ true → pos_part (least_of kind) + neg_part z ≤ pos_part z + neg_part (least_of kind)
-at_least kind z e = le-pn (least_of kind) z (and_left (le_z (least_of kind) z) (le_z z (most_of kind)) e)
-
-at_most : (kind : Kind) (z : ℤ) → is_kind kind z ≡ true → pos_part z + neg_part (most_of kind) ≤ pos_part (most_of kind) + neg_part z
-at_most kind z e = le-pn z (most_of kind) (and_right (le_z (least_of kind) z) (le_z z (most_of kind)) e)
-
--- a number that an unsigned field takes
-abbrev pub Natural : Width → ℤ → Type 0
-Natural w z = T (non_neg z) × Fits w (nat_abs z)
-
-pub is-u8 : (z : ℤ) → is_kind U8 z ≡ true → Natural w8 z
-is-u8 z e = unsign w8 z (omega (arith, at_least U8 z e)) (omega (arith, at_most U8 z e))
-
-pub is-u32 : (z : ℤ) → is_kind U32 z ≡ true → Natural w32 z
-is-u32 z e = unsign w32 z (omega (arith, at_least U32 z e)) (omega (arith, at_most U32 z e))
-
-pub is-count : (z : ℤ) → is_kind Count z ≡ true → Natural w64 z
-is-count z e = unsign w64 z (omega (arith, at_least Count z e)) (omega (arith, at_most Count z e))
+-- a kind whose least number is 0: without its sign a number is the same
+pub own : (kind : Kind) (z : ℤ) → least_of kind ≡ pos 0 → is_kind kind z ≡ true → pos (nat_abs z) ≡ z
+own kind (pos n) least e = refl
+own kind (negsuc n) least e = absurd (false≢true (rw least at e))
 
 pub count_small : (z : ℤ) → is_kind Count z ≡ true → nat_abs z ≤ 9223372036854775807
-count_small z e =
-    let low : neg_part z ≤ pos_part z = omega (arith, at_least Count z e) in
-    omega (arith, nat-pn z low, at_most Count z e)
-
-pub is-i16 : (z : ℤ) → is_kind I16 z ≡ true → SFits w16 z
-is-i16 z e = pn-fit (omega (arith, at_most I16 z e)) (omega (arith, at_least I16 z e))
-
-pub is-i32 : (z : ℤ) → is_kind I32 z ≡ true → SFits w32 z
-is-i32 z e = pn-fit (omega (arith, at_most I32 z e)) (omega (arith, at_least I32 z e))
-
--- ---- without its sign it is the same
-
-pub own-u8 : (z : ℤ) → is_kind U8 z ≡ true → pos (nat_abs z) ≡ z
-own-u8 z e = pos-nat_abs z (is-u8 z e).0
-
-pub own-u32 : (z : ℤ) → is_kind U32 z ≡ true → pos (nat_abs z) ≡ z
-own-u32 z e = pos-nat_abs z (is-u32 z e).0
-
-pub own-count : (z : ℤ) → is_kind Count z ≡ true → pos (nat_abs z) ≡ z
-own-count z e = pos-nat_abs z (is-count z e).0
+count_small (pos n) e = grind (arith, ints)
+count_small (negsuc n) e = absurd (false≢true e)
 
 -- ---- a number that fits the type is one of the kind
 
-of-kind : (kind : Kind) (z : ℤ) → pos_part (least_of kind) + neg_part z ≤ pos_part z + neg_part (least_of kind) → pos_part z + neg_part (most_of kind) ≤ pos_part (most_of kind) + neg_part z → is_kind kind z ≡ true
-of-kind kind z low high = and_both (pn-le (least_of kind) z low) (pn-le z (most_of kind) high)
-
 pub u8_is : (n : ℕ) → n < 256 → is_kind U8 (pos n) ≡ true
-u8_is n h = of-kind U8 (pos n) (omega arith) (omega arith)
+u8_is n h = grind (arith, ints)
 
 pub u32-is : (n : ℕ) → n < 4294967296 → is_kind U32 (pos n) ≡ true
-u32-is n h = of-kind U32 (pos n) (omega arith) (omega arith)
+u32-is n h = grind (arith, ints)
 
 pub i32-is : (z : ℤ) → pos_part z < 2147483648 + neg_part z → neg_part z ≤ 2147483648 + pos_part z → is_kind I32 z ≡ true
-i32-is z high low = of-kind I32 z (omega arith) (omega arith)
+i32-is z high low = and_both (pn-le (least_of I32) z (omega arith)) (pn-le z (most_of I32) (omega arith))
 
 -- ---- a place in front of those behind it
 

@@ -19,34 +19,39 @@ pub enum Kind {
 }
 
 impl Kind {
+    // The least and the greatest number of a kind. Both by one match: the compiler then unrolls the loop over a sheet's fields, which it does not where it
+    // has to look into two tables.
+    fn ends(self) -> (i64, i64)
+        ensures { (result.0 ≡ least_of self) × (result.1 ≡ most_of self) }
+    {
+        match self {
+            Kind::U8 => (0, i64::from(u8::MAX)),
+            Kind::U32 => (0, i64::from(u32::MAX)),
+            Kind::I16 => (i64::from(i16::MIN), i64::from(i16::MAX)),
+            Kind::I32 => (i64::from(i32::MIN), i64::from(i32::MAX)),
+            Kind::I64 => (i64::MIN, i64::MAX),
+            Kind::Count => (0, i64::MAX),
+        }
+    }
+
     pub fn least(self) -> i64
         ensures { result ≡ least_of self }
     {
-        match self {
-            Kind::U8 | Kind::U32 | Kind::Count => 0,
-            Kind::I16 => i64::from(i16::MIN),
-            Kind::I32 => i64::from(i32::MIN),
-            Kind::I64 => i64::MIN,
-        }
+        self.ends().0
     }
 
     pub fn most(self) -> i64
         ensures { result ≡ most_of self }
     {
-        match self {
-            Kind::U8 => i64::from(u8::MAX),
-            Kind::U32 => i64::from(u32::MAX),
-            Kind::I16 => i64::from(i16::MAX),
-            Kind::I32 => i64::from(i32::MAX),
-            Kind::I64 | Kind::Count => i64::MAX,
-        }
+        self.ends().1
     }
 
     // Both ends are tested, whatever the first test says: with no branch between them the loop below is short enough for the compiler to unroll.
     fn takes(self, v: i64) -> bool
         ensures { result ≡ is_kind self v }
     {
-        (self.least() <= v) & (v <= self.most())
+        let (least, most) = self.ends();
+        (least <= v) & (v <= most)
     }
 }
 
@@ -60,6 +65,7 @@ pub enum FieldError {
 }
 
 impl FieldError {
+    // One form for all errors: those that hold something have no discriminant to cast.
     pub fn number(self) -> u32
         ensures { result ≡ field_number self }
     {

@@ -113,7 +113,10 @@ faults-numbered s = search (numbered-append, lengths-numbered, banks-numbered, f
 
 -- ---- what is told of a kind
 
--- where nothing is told of a kind, it has no fault
+-- where nothing is told of a row or of a kind, it has no fault
+pub row-none : (bank r : ℕ) (row : List ℤ) → first_of (row_faults bank r row) ≡ nothing → row_faults bank r row ≡ []
+row-none bank r row e = first-none _ (row-numbered bank r row) (ap (λ (r : Refusal). r.number) e)
+
 pub rows-none : (taps bank : ℕ) (cs : List ℤ) → first_of (rows_faults taps bank cs 0 64) ≡ nothing → rows_faults taps bank cs 0 64 ≡ []
 rows-none taps bank cs e = first-none _ (rows-numbered taps bank cs 0 64) (ap (λ (r : Refusal). r.number) e)
 

@@ -4,6 +4,7 @@ use Rattle.std.proofs.Common.{◌≡◌, ℕ, suc, ◌+◌, ◌-◌, ◌/◌, �
 use Rattle.std.specs.List.{sum_by}
 use Rattle.std.proofs.lemmas.List.Recursion.{is_sum_by}
 use Rattle.std.proofs.lemmas.Bool.Decides.{nat_tests}
+use Rattle.std.proofs.lemmas.Nat.{le_or_l, le_or_r}
 use lib.Seq.{split_at}
 use borrow.Author.Tests.{lt-leb}
 use Rattle.params.specs.Refusal.{refusal, first_of}
@@ -27,7 +28,7 @@ unfolding magnitudes
 magnitudes-suc row i h = rw (take-suc row i (pos 0) h) (omega (arith, magnitudes-append (take i row) (get_or row i (pos 0) ∷ [])))
 
 -- what one coefficient more adds
-pub ruleset one_more = (magnitudes-suc, take-suc)
+pub ruleset one_more = (magnitudes-suc, take-suc, le_or_l, le_or_r)
 
 -- ---- the coefficients one by one
 
@@ -77,8 +78,8 @@ module _ (bank phase : ℕ) where
   unfolding row_faults
   light-row row h = rw (light-coefficients row h, le-leb (magnitudes row) 131071 h)
 
--- one coefficient after the other
-pub ruleset coefficients = (take_all, coefficients-suc, coefficient-first, sum_first)
+-- one coefficient after the other, in a row of which the sum is too large, and none of another
+pub ruleset coefficients = (take_all, coefficients-suc, coefficient-first, sum_first, light-row)
 
 -- ---- the detector's places
 

@@ -1,10 +1,11 @@
 -- Banks, row after row: what holds of the rows passed goes on with the next one, and the first row with a fault has the bank's first.
-use Rattle.std.proofs.Common.{◌≡◌, ℕ, zero, suc, ◌+◌, ◌-◌, ◌*◌, ◌<◌, ◌≤◌, true, ◌&&◌, leb, List, [], ◌++◌, length, take, drop, ℤ, ap, ◌∙◌, append_assoc, mul-le-mul_right, suc-mul, arith, length-drop, length-take-le, leb-true}
+use Rattle.std.proofs.Common.{◌≡◌, ℕ, zero, suc, ◌+◌, ◌-◌, ◌*◌, ◌<◌, ◌≤◌, true, ◌&&◌, leb, List, [], ◌++◌, length, take, drop, ℤ, ap, sym, ◌∙◌, append_assoc, length-append, mul-le-mul_right, suc-mul, arith, length-drop, length-take-le, leb-true}
+use lib.Seq.{take-append_seam, drop-append_seam}
+use Rattle.std.proofs.lemmas.List.{drop-drop}
 use Rattle.params.specs.Refusal.{first_of}
 use Rattle.params.specs.Banks.{row_of, coefficient_faults, magnitudes, row_faults, rows_faults, zero_outside, rows_outside}
-use Rattle.params.proofs.Faults.{kept, none_left, none_right, first-append, error-numbered}
+use Rattle.params.proofs.Faults.{kept, none_left, none_right, first-append, error-numbered, row-none}
 use Rattle.arith.proofs.Both.{and_left, and_right}
-use Rattle.params.proofs.Rows.{light-row}
 
 -- ---- the rows of a bank
 
@@ -21,6 +22,27 @@ module _ (taps : ℕ) (cs : List ℤ) where
   pub row-part : (at r : ℕ) → at ≡ r * taps → take (at + taps - at) (drop at cs) ≡ row_of taps cs r
   unfolding row_of
   row-part at r e = let l : at + taps - at ≡ taps = omega arith in rw (l, e)
+
+  -- ---- the bank cut into its rows: behind n of them come row n and the rest
+
+  pub cut-row : (n : ℕ) (row rest : List ℤ) → drop (n * taps) cs ≡ row ++ rest → length row ≡ taps → row ≡ row_of taps cs n
+  unfolding row_of
+  cut-row n row rest e l = rw e (rw (← l) (sym (take-append_seam row rest)))
+
+  pub cut-rest : (n : ℕ) (row rest : List ℤ) → drop (n * taps) cs ≡ row ++ rest → length row ≡ taps → rest ≡ drop ((n + 1) * taps) cs
+  cut-rest n row rest e l =
+      let on : (n + 1) * taps ≡ n * taps + taps = grind (arith, suc-mul n taps) in
+      rw (on, ← drop-drop taps (n * taps) cs, e, ← l) (sym (drop-append_seam row rest))
+
+  -- while a row is left, fewer than 64 were cut off
+  pub cut-some : (n : ℕ) (row rest : List ℤ) → length cs ≡ 64 * taps → 0 < taps → drop (n * taps) cs ≡ row ++ rest → length row ≡ taps → n + 1 ≤ 64
+  cut-some n row rest long some e l =
+      let past : 64 ≤ n → 64 * taps ≤ n * taps = λ h. mul-le-mul_right taps h in
+      grind (arith, length-drop (n * taps) cs, length-append row rest, ap length e, past)
+
+  -- where none is left, all were
+  pub cut-all : (n : ℕ) → length cs ≡ 64 * taps → n ≤ 64 → length (drop (n * taps) cs) < taps → n ≡ 64
+  cut-all n long le few = grind (arith, length-drop (n * taps) cs, row_inside n)
 
   rows_split : (bank r n m : ℕ) → rows_faults taps bank cs r (n + m) ≡ rows_faults taps bank cs r n ++ rows_faults taps bank cs (r + n) m
   unfolding rows_faults
@@ -59,20 +81,20 @@ module _ (taps : ℕ) (cs : List ℤ) where
 
   -- ---- what holds of each row of a bank that was accepted
 
-  row-none : (bank r m n : ℕ) → n < m → rows_faults taps bank cs r m ≡ [] → row_faults bank (r + n) (row_of taps cs (r + n)) ≡ []
+  none-of-row : (bank r m n : ℕ) → n < m → rows_faults taps bank cs r m ≡ [] → row_faults bank (r + n) (row_of taps cs (r + n)) ≡ []
   unfolding rows_faults
-  row-none bank r zero n h e = absurd (omega arith)
-  row-none bank r (suc m) zero h e = let z : r + zero ≡ r = omega arith in rw z (none_left _ _ e)
-  row-none bank r (suc m) (suc n) h e =
+  none-of-row bank r zero n h e = absurd (omega arith)
+  none-of-row bank r (suc m) zero h e = let z : r + zero ≡ r = omega arith in rw z (none_left _ _ e)
+  none-of-row bank r (suc m) (suc n) h e =
       let z : r + suc n ≡ suc r + n = omega arith in
-      rw z (row-none bank (suc r) m n (omega arith) (none_right (row_faults bank r (row_of taps cs r)) _ e))
+      rw z (none-of-row bank (suc r) m n (omega arith) (none_right (row_faults bank r (row_of taps cs r)) _ e))
 
   pub row-light : (bank n : ℕ) → n < 64 → rows_faults taps bank cs 0 64 ≡ [] → magnitudes (row_of taps cs n) ≤ 131071
   unfolding row_faults
   row-light bank n h e =
       let z : 0 + n ≡ n = omega arith in
       let row = row_of taps cs n in
-      let none : row_faults bank n row ≡ [] = rw z at (row-none bank 0 64 n h e) in
+      let none : row_faults bank n row ≡ [] = rw z at (none-of-row bank 0 64 n h e) in
       leb-true (magnitudes row) 131071 (kept (leb (magnitudes row) 131071) _ (none_right (coefficient_faults bank n row) _ none))
 
   row_zero : (r m n : ℕ) → n < m → rows_outside taps cs r m ≡ true → zero_outside taps 0 (row_of taps cs (r + n)) ≡ true
@@ -86,4 +108,4 @@ module _ (taps : ℕ) (cs : List ℤ) where
   row-centred n h e = let z : 0 + n ≡ n = omega arith in rw z at (row_zero 0 64 n h e)
 
 -- one row after the other
-pub ruleset rows = (rows-suc, rows-first, outside-suc, light-row, error-numbered)
+pub ruleset rows = (rows-suc, rows-first, outside-suc, row-none, error-numbered, cut-row, cut-rest, cut-some, cut-all)

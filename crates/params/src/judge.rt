@@ -61,7 +61,8 @@ impl Params {
     }
 
     fn check_integrator(self) -> Result<(), ParamError>
-        ensures { faults_of error_refusal result ≡ unless (within (pos 0) (pos 4194303) self.integrator_max) (error_refusal (ParamError.Range Field.IntegratorMax)) }
+        ensures { faults_of error_refusal result ≡ unless (within (pos 0) (pos 4194303) self.integrator_max)
+            (error_refusal (ParamError.Range Field.IntegratorMax)) }
     {
         require(
             (0..=4194303).contains(&self.integrator_max),

@@ -12,17 +12,17 @@ use borrow.Author.Tests.{eq-eqb}
 use Rattle.state.specs.declared.Pair.{Pair}
 use Rattle.registers.specs.declared.Pending.{Pending}
 use Rattle.state.specs.declared.Frontend.{Frontend}
-use Rattle.kinds.specs.declared.Kind.TheVariants.{U8}
+use Rattle.kinds.specs.declared.Kind.TheVariants.{U8, U32, Count}
 use Rattle.kinds.specs.Kinds.{at, is_kind, are_kinds}
 use Rattle.places.specs.Sheet.{sheet_kinds, sheet_numbers}
 use Rattle.places.specs.States.{Slices, line_of, pending_of, line_numbers, pending_numbers, first_kinds, state_fits, AreState, registers_at, state_of, numbers_of}
 use Rattle.places.specs.Crossing.{Whole, Typed, StatesCross}
 use Rattle.arith.proofs.Both.{and_both}
-use Rattle.kinds.proofs.OfKind.{own-u32, own-count, front}
+use Rattle.kinds.proofs.OfKind.{own, front}
 use Rattle.kinds.proofs.Readable.{readable}
 use Rattle.places.proofs.Readable.{are_state, first_at}
 use Rattle.places.proofs.InPairs.{flat-long, in-flat, flat_in}
-use Rattle.places.proofs.Sheets.{sheets-cross}
+use Rattle.places.proofs.Sheets.{sheets_cross}
 
 -- ---- the pairs
 
@@ -50,7 +50,7 @@ back : (f : Frontend) → state_of (numbers_of f) ≡ f
 unfolding state_of numbers_of registers_at
 back f = λ i.
     record {
-      params = sheets-cross.back f.params i;
+      params = sheets_cross.back f.params i;
       registers = f.registers;
       line = line-back f.line i;
       head = f.head;
@@ -65,7 +65,7 @@ back f = λ i.
 fit : (f : Frontend) → Whole f → Typed f → state_fits (numbers_of f) ≡ true
 unfolding state_fits numbers_of are_kinds sheet_numbers
 fit f w t =
-    let sheet = readable sheet_kinds (sheet_numbers f.params) (sheets-cross.fit f.params t.sheet) in
+    let sheet = readable sheet_kinds (sheet_numbers f.params) (sheets_cross.fit f.params t.sheet) in
     let line : length (line_numbers f.line) ≡ 128 = omega (arith, line-long f.line, w.line) in
     let errors : length (pending_numbers f.pending) ≡ 48 = omega (arith, pending-long f.pending, w.pending) in
     and_both (and_both (eq-eqb _ 128 line) (eq-eqb _ 48 errors))
@@ -88,16 +88,16 @@ module _ (l : Slices) (fits : state_fits l ≡ true) where
   places-again : (numbers_of (state_of l)).places ≡ l.places
   unfolding state_of numbers_of registers_at
   places-again =
-      place 0 (lit< tt) (own-u32 (at l.places 0) (kind 0 (lit< tt)))
+      place 0 (lit< tt) (own U32 (at l.places 0) refl (kind 0 (lit< tt)))
       (place 1 (lit< tt) refl
       (place 2 (lit< tt) refl
-      (place 3 (lit< tt) (own-u32 (at l.places 3) (kind 3 (lit< tt)))
-      (place 4 (lit< tt) (own-u32 (at l.places 4) (kind 4 (lit< tt)))
-      (place 5 (lit< tt) (own-count (at l.places 5) (kind 5 (lit< tt)))
-      (place 6 (lit< tt) (own-count (at l.places 6) (kind 6 (lit< tt)))
-      (place 7 (lit< tt) (own-count (at l.places 7) (kind 7 (lit< tt)))
-      (place 8 (lit< tt) (own-count (at l.places 8) (kind 8 (lit< tt)))
-      (place 9 (lit< tt) (own-count (at l.places 9) (kind 9 (lit< tt))) (sheets-cross.again (drop 10 l.places) r.sheet))))))))))
+      (place 3 (lit< tt) (own U32 (at l.places 3) refl (kind 3 (lit< tt)))
+      (place 4 (lit< tt) (own U32 (at l.places 4) refl (kind 4 (lit< tt)))
+      (place 5 (lit< tt) (own Count (at l.places 5) refl (kind 5 (lit< tt)))
+      (place 6 (lit< tt) (own Count (at l.places 6) refl (kind 6 (lit< tt)))
+      (place 7 (lit< tt) (own Count (at l.places 7) refl (kind 7 (lit< tt)))
+      (place 8 (lit< tt) (own Count (at l.places 8) refl (kind 8 (lit< tt)))
+      (place 9 (lit< tt) (own Count (at l.places 9) refl (kind 9 (lit< tt))) (sheets_cross.again (drop 10 l.places) r.sheet))))))))))
 
   again : numbers_of (state_of l) ≡ l
   unfolding state_of numbers_of
@@ -107,5 +107,5 @@ module _ (l : Slices) (fits : state_fits l ≡ true) where
     errors = pending-again l.errors (omega (arith, r.errors)) i;
   }
 
-pub states-cross : StatesCross
-states-cross = record { back = back; fit = fit; again = again }
+pub states_cross : StatesCross
+states_cross = record { back = back; fit = fit; again = again }

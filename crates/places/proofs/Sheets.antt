@@ -9,9 +9,9 @@ use lib.ListN.{length, get_or, drop, drop_of_length-le}
 use lib.IntN.{ℤ}
 use Rattle.arith.proofs.Both.{and_both}
 use Rattle.params.specs.declared.Params.{Params}
-use Rattle.kinds.specs.declared.Kind.TheVariants.{U8}
+use Rattle.kinds.specs.declared.Kind.TheVariants.{U8, U32}
 use Rattle.kinds.specs.Kinds.{at, is_kind, are_kinds}
-use Rattle.kinds.proofs.OfKind.{own-u8, own-u32, front}
+use Rattle.kinds.proofs.OfKind.{own, front}
 use Rattle.kinds.proofs.Readable.{readable}
 use Rattle.places.specs.Sheet.{sheet_kinds, sheet_number, params_at, sheet_numbers}
 use Rattle.places.specs.Crossing.{TypedSheet, SheetsCross}
@@ -52,25 +52,25 @@ module _ (l : List ℤ) (e : sheet_number l ≡ 0) where
   again : sheet_numbers (params_at l) ≡ l
   unfolding params_at sheet_numbers
   again =
-      place 0 (lit< tt) (own-u32 (at l 0) (kind 0 (lit< tt)))
+      place 0 (lit< tt) (own U32 (at l 0) refl (kind 0 (lit< tt)))
       (place 1 (lit< tt) refl
-      (place 2 (lit< tt) (own-u32 (at l 2) (kind 2 (lit< tt)))
-      (place 3 (lit< tt) (own-u32 (at l 3) (kind 3 (lit< tt)))
-      (place 4 (lit< tt) (own-u32 (at l 4) (kind 4 (lit< tt)))
-      (place 5 (lit< tt) (own-u8 (at l 5) (kind 5 (lit< tt)))
+      (place 2 (lit< tt) (own U32 (at l 2) refl (kind 2 (lit< tt)))
+      (place 3 (lit< tt) (own U32 (at l 3) refl (kind 3 (lit< tt)))
+      (place 4 (lit< tt) (own U32 (at l 4) refl (kind 4 (lit< tt)))
+      (place 5 (lit< tt) (own U8 (at l 5) refl (kind 5 (lit< tt)))
       (place 6 (lit< tt) refl
-      (place 7 (lit< tt) (own-u8 (at l 7) (kind 7 (lit< tt)))
+      (place 7 (lit< tt) (own U8 (at l 7) refl (kind 7 (lit< tt)))
       (place 8 (lit< tt) refl
-      (place 9 (lit< tt) (own-u8 (at l 9) (kind 9 (lit< tt)))
+      (place 9 (lit< tt) (own U8 (at l 9) refl (kind 9 (lit< tt)))
       (place 10 (lit< tt) refl
-      (place 11 (lit< tt) (own-u32 (at l 11) (kind 11 (lit< tt)))
-      (place 12 (lit< tt) (own-u32 (at l 12) (kind 12 (lit< tt)))
-      (place 13 (lit< tt) (own-u8 (at l 13) (kind 13 (lit< tt)))
-      (place 14 (lit< tt) (own-u8 (at l 14) (kind 14 (lit< tt)))
-      (place 15 (lit< tt) (own-u8 (at l 15) (kind 15 (lit< tt)))
-      (place 16 (lit< tt) (own-u8 (at l 16) (kind 16 (lit< tt)))
-      (place 17 (lit< tt) (own-u8 (at l 17) (kind 17 (lit< tt)))
+      (place 11 (lit< tt) (own U32 (at l 11) refl (kind 11 (lit< tt)))
+      (place 12 (lit< tt) (own U32 (at l 12) refl (kind 12 (lit< tt)))
+      (place 13 (lit< tt) (own U8 (at l 13) refl (kind 13 (lit< tt)))
+      (place 14 (lit< tt) (own U8 (at l 14) refl (kind 14 (lit< tt)))
+      (place 15 (lit< tt) (own U8 (at l 15) refl (kind 15 (lit< tt)))
+      (place 16 (lit< tt) (own U8 (at l 16) refl (kind 16 (lit< tt)))
+      (place 17 (lit< tt) (own U8 (at l 17) refl (kind 17 (lit< tt)))
       none)))))))))))))))))
 
-pub sheets-cross : SheetsCross
-sheets-cross = record { back = back; fit = fit; again = again }
+pub sheets_cross : SheetsCross
+sheets_cross = record { back = back; fit = fit; again = again }

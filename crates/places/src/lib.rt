@@ -4,6 +4,7 @@
 // A sheet is 18 places (sheet.rt), a state 28 with its line and its errors beside them (states.rt), a design five rates and eight places (rates.rt).
 #![tactic(auto)]
 
+mod claims;
 mod numbers;
 mod pairs;
 mod rates;
@@ -13,6 +14,7 @@ mod states;
 ghost use Rattle.std.specs.Prelude.{◌≡◌};
 ghost use Rattle.places.specs.Refusal.{places_refusal};
 
+pub use claims::{sheets_cross, states_cross};
 pub use rates::read_design;
 pub use sheet::{read_sheet, sheet_kinds, write_sheet};
 pub use states::{Slices, write_state};
@@ -27,6 +29,7 @@ pub enum PlacesError {
 }
 
 impl PlacesError {
+    // One form for all errors: those that hold something have no discriminant to cast.
     pub fn number(self) -> u32
         ensures { result ≡ places_refusal self }
     {

@@ -62,7 +62,7 @@ impl TwoNumbers for Pending {
     }
 }
 
-// Fills a list from its numbers.
+// Fills a list from its numbers. By index: behind an adapter of `iter_mut`, as `enumerate` or `zip`, no clause says what is written through an item.
 pub(crate) fn read<T: TwoNumbers>(numbers: &[i32], list: &mut [T])
     requires { length numbers.now ≡ 2 * length list.old }
     ensures { list.new ≡ in_pairs T.made numbers.now }
@@ -77,8 +77,7 @@ pub(crate) fn write<T: TwoNumbers>(list: &[T], numbers: &mut [i32])
     requires { length numbers.old ≡ 2 * length list.now }
     ensures { numbers.new ≡ flat_pairs T.one T.other list.now }
 {
-    for n in 0..list.len() {
-        let x = list[n];
+    for (n, x) in list.iter().enumerate() {
         numbers[2 * n] = x.first();
         numbers[2 * n + 1] = x.second();
     }

@@ -89,9 +89,9 @@ impl Slices<'_> {
         ensures { result ≡ state_of self.now }
     {
         let places = self.places;
-        let mut line = [Pair { i: 0, q: 0 }; 64];
+        let mut line = [Pair::default(); 64];
         pairs::read(self.line, &mut line);
-        let mut pending = [Pending { e: 0, err: 0 }; RING_PLACES];
+        let mut pending = [Pending::default(); RING_PLACES];
         pairs::read(self.errors, &mut pending);
         Frontend {
             params: sheet::params_of(&places[10..]),
@@ -140,7 +140,7 @@ fn first_places(f: &Frontend) -> Option<[i64; 10]>
     ])
 }
 
-// Writes all of a state. The slices are as long as one, and each count has a place.
+// Writes all of a state. The slices are as long as one, and each count has a place. They come one by one, as C lends them.
 #[tactic(auto, unfolding(crate::specs::States::state_written, crate::specs::States::numbers_of))]
 pub fn write_state(
     f: &Frontend,
@@ -159,9 +159,7 @@ pub fn write_state(
     if !lent.are_long() {
         return Err(PlacesError::State);
     }
-    let Some(first) = first_places(f) else {
-        return Err(PlacesError::State);
-    };
+    let first = first_places(f).ok_or(PlacesError::State)?;
     places[..10].copy_from_slice(&first);
     sheet::write(f.params, &mut places[10..]);
     pairs::write(&f.line, line);

@@ -1,13 +1,11 @@
--- Numbers with their sign, rows, and the lines from their parts.
-use Rattle.std.proofs.Common.{◌≡◌, refl, sym, ◌∙◌, ℕ, ◌+◌, ◌≤◌, ◌<◌, List, [], ◌∷◌, ◌++◌, append_assoc, ℤ, pos, negsuc, length, arith, nat_abs}
+-- Rows, and the lines from their parts.
+use Rattle.std.proofs.Common.{◌≡◌, refl, sym, ◌∙◌, ℕ, ◌+◌, ◌≤◌, ◌<◌, List, [], ◌∷◌, ◌++◌, append_assoc, ℤ, pos, length, arith}
 use mathlib.Core.List.{append-nil}
-use mathlib.Core.Bool.{true, false, cond, true≢false}
+use mathlib.Core.Bool.{true, false, cond}
 use lib.Dec.{leb}
 use lib.ListN.{drop, get_or}
 use lib.Seq.{drop-cons}
 use native.Mathlib.Numerals.{add-one}
-use lib.Signed.{lt_z}
-use Rattle.std.proofs.lemmas.Bool.Decides.{nat_tests}
 use borrow.Author.Tests.{le-leb, lt-leb}
 use Rattle.print.specs.Number.{decimal, text_of}
 use Rattle.print.specs.Print.{roomed, ends_with, line_text, end_of, refused_of}
@@ -21,19 +19,6 @@ with_room room bytes page text h = rw (le-leb (length page + room) bytes h)
 pub without_room : (room bytes : ℕ) (page text : List ℕ) → bytes < length page + room → page ≡ page ++ roomed room bytes page text
 unfolding roomed
 without_room room bytes page text h = rw (lt-leb (length page + room) bytes h) (sym (append-nil page))
-
--- ---- a number with its sign
-
-pub below_zero : (page signed new : List ℕ) (z : ℤ) (n : ℕ) → lt_z z (pos 0) ≡ true → signed ≡ page ++ (45 ∷ []) → n ≡ nat_abs z → new ≡ signed ++ decimal n
-    → new ≡ page ++ text_of z
-unfolding text_of
-below_zero page signed new (pos k) n t e f g = absurd (grind (arith, nat_tests))
-below_zero page signed new (negsuc k) n t e f g = g ∙ rw (e, f) (simp append_assoc)
-
-pub not_below : (page new : List ℕ) (z : ℤ) (n : ℕ) → lt_z z (pos 0) ≡ false → n ≡ nat_abs z → new ≡ page ++ decimal n → new ≡ page ++ text_of z
-unfolding text_of
-not_below page new (pos k) n t f g = g ∙ rw f refl
-not_below page new (negsuc k) n t f g = absurd (true≢false t)
 
 -- ---- rows
 

@@ -10,11 +10,6 @@ digits_of (suc more) n = cond (ltb n 10) ((48 + n) ∷ []) (digits_of more (n / 
 unfoldable pub decimal : ℕ → List ℕ
 decimal n = digits_of (suc n) n
 
--- The last k digits of n, with zeros in front where it has fewer.
-unfoldable pub last_digits : ℕ → ℕ → List ℕ
-last_digits zero n = []
-last_digits (suc k) n = last_digits k (n / 10) ++ ((48 + n % 10) ∷ [])
-
 -- An integer: its digits, after '-', 45, where it is negative.
 unfoldable pub text_of : ℤ → List ℕ
 text_of (pos n) = decimal n

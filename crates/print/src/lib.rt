@@ -2,7 +2,7 @@
 #![tactic(auto)]
 
 ghost use Rattle.std.specs.Prelude.{◌≡◌, ◌≤◌, ◌<◌, ◌+◌, ◌*◌, ◌++◌, [], ◌∷◌, length};
-ghost use Rattle.print.specs.Number.{decimal, last_digits, text_of};
+ghost use Rattle.print.specs.Number.{decimal, text_of};
 ghost use Rattle.print.specs.Print.{roomed, line_text, end_of, refused_of};
 
 use std::marker::Model;
@@ -15,7 +15,7 @@ const END: usize = 70;
 
 const REFUSAL: usize = 52;
 
-// A page of N bytes, filled from its start on.
+// A page of N bytes, filled from its start on. A fixed array, since the program takes no heap.
 #[derive(Drop)]
 pub struct Page<const N: usize> {
     bytes: [u8; N],
@@ -31,46 +31,6 @@ impl<const N: usize> Model for Page<N> {
     ghost view = { λ p. take p.used p.bytes };
 
     ghost invariant = { λ p. p.used ≤ N };
-}
-
-// How many digits n has.
-#[tactic(auto, using(crate::proofs::Digits::next_power))]
-fn width(n: u64) -> usize
-    ensures { (decimal n ≡ last_digits result n) × (result ≤ 20) }
-{
-    let tenth = n / 10;
-    let mut power: u64 = 1;
-    for k in 1..20 {
-        if tenth < power {
-            return k;
-        }
-        power *= 10;
-    }
-    20
-}
-
-fn glyph(d: u64) -> u8
-    requires { d < 10 }
-    ensures { result ≡ 48 + d }
-{
-    b'0' + d as u8
-}
-
-// Sets the last digits of n, as many as there are places. They go in from the last to the first, two by two: half as many divisions wait for one another.
-fn set_digits(n: u64, places: &mut [u8])
-    ensures { places.new ≡ last_digits (length places.old) n }
-{
-    let odd = places.len() % 2;
-    let mut v = n;
-    for pair in (0..places.len() / 2).rev() {
-        let at = odd + 2 * pair;
-        places[at + 1] = glyph(v % 10);
-        places[at] = glyph(v / 10 % 10);
-        v /= 100;
-    }
-    if odd == 1 {
-        places[0] = glyph(v % 10);
-    }
 }
 
 impl<const N: usize> Page<N> {
@@ -121,26 +81,26 @@ impl<const N: usize> Page<N> {
         self.used = end;
     }
 
+    // By itoa, on the stack: `write!` gives a Result, and no clause of std says that it is never an error.
+    #[tactic(auto, using(crate::proofs::Digits::is_decimal))]
     fn put_digits(&mut self, n: u64)
         requires { length self.old + 20 ≤ N }
         ensures put { self.new ≡ self.old ++ decimal n }
         ensures most { length self.new ≤ length self.old + 20 }
     {
-        let end = self.used + width(n);
-        let bytes = &mut self.bytes[..];
-        set_digits(n, &mut bytes[self.used..end]);
-        self.used = end;
+        let mut digits = itoa::Buffer::new();
+        self.put_bytes(digits.format(n).as_bytes());
     }
 
+    // As put_digits, of a signed number: `format` takes either type, and the two contracts name two definitions.
+    #[tactic(auto, using(crate::proofs::Digits::is_text))]
     fn put_number(&mut self, z: i64)
         requires { length self.old + 21 ≤ N }
         ensures put { self.new ≡ self.old ++ text_of z }
         ensures most { length self.new ≤ length self.old + 21 }
     {
-        if z < 0 {
-            self.put_byte(b'-');
-        }
-        self.put_digits(z.unsigned_abs());
+        let mut digits = itoa::Buffer::new();
+        self.put_bytes(digits.format(z).as_bytes());
     }
 
     // Prints numbers as a line, or nothing where 22 bytes a number do not fit.

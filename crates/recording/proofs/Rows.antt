@@ -1,13 +1,12 @@
 -- A row put into places from one on, a number at a time: with what is left of it the places become what they become with all of the row.
 -- Past the last place nothing changes.
-use Prim.Native.Nat.{ℕ, suc, ◌+◌, ◌≤◌, ◌<◌, min}
+use Prim.Native.Nat.{ℕ, suc, ◌+◌, ◌≤◌, min}
 use mathlib.Core.Path.{◌≡◌, refl, sym, ap, ◌∙◌}
 use mathlib.Core.List.{List, [], ◌∷◌, map}
 use native.Mathlib.Decide.{dec_le}
-use native.Mathlib.Numerals.{add-one}
 use native.Mathlib.Omega.{arith}
-use lib.ListN.{length, get_or, drop, set, drop_of_length-le}
-use lib.Seq.{sets, set_out, drop-cons}
+use lib.ListN.{length, drop, drop_of_length-le}
+use lib.Seq.{sets, set_out}
 
 module _ {A : Type 0} where
   -- past the last place nothing is set
@@ -24,15 +23,6 @@ module _ {A : Type 0} where
   ]
 
 module _ {A B : Type 0} (f : A → B) (row : List A) (i : ℕ) where
-  -- the next number
-  pub sets-next : (d : A) (bank : List B) (start : ℕ) → i < length row
-      → sets bank (start + i) (map f (drop i row)) ≡ sets (set bank (start + i) (f (get_or row i d))) (start + (i + 1)) (map f (drop (i + 1) row))
-  sets-next d bank start h =
-      let p : suc (start + i) ≡ start + (i + 1) = omega arith in
-      let left = map f (drop (i + 1) row) in
-      let cons : drop i row ≡ get_or row i d ∷ drop (i + 1) row = rw (add-one, drop-cons row i d) in
-      ap (λ (r : List A). sets bank (start + i) (map f r)) cons ∙ ap (λ (k : ℕ). sets (set bank (start + i) (f (get_or row i d))) k left) p
-
   -- the last: none is left, or no place
   pub sets_last : (bank : List B) (at n : ℕ) → min (length row) n ≤ i → length bank ≤ at + n → sets bank (at + i) (map f (drop i row)) ≡ bank
   sets_last bank at n h p = elim (dec_le (length row) i) [

@@ -32,6 +32,7 @@ impl InputError {
     ghost use Rattle.std.specs.Prelude.{◌≡◌};
     ghost use Rattle.recording.specs.Lines.{input_number};
 
+    // One form for all errors: those that hold something have no discriminant to cast.
     pub fn number(self) -> u32
         ensures { result ≡ input_number self }
     {

@@ -30,11 +30,7 @@ pub fn next_line(bytes: &[u8], over: bool, line: u64) -> Result<Next, InputError
     match text::line_end(bytes) {
         LineEnd::After(n) => Ok(Next::Line(n)),
         LineEnd::TooLong => Err(InputError::Malformed),
-        LineEnd::Open => {
-            if over {
-                return end(bytes.len(), line);
-            }
-            Ok(Next::More)
-        }
+        LineEnd::Open if over => end(bytes.len(), line),
+        LineEnd::Open => Ok(Next::More),
     }
 }

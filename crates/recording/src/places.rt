@@ -4,7 +4,8 @@ ghost use Rattle.std.proofs.lemmas.List.Edits.{sets};
 ghost use Rattle.arith.specs.Arith.{narrow_i32};
 ghost use Rattle.recording.specs.Places.{pair_at};
 
-// The numbers of a row: as many as the taps say, and no more than the longest row has.
+// The numbers of a row: as many as the taps say, and no more than the longest row has. Taps that are judged are no more; without the limit both lengths would
+// ask that of each caller, down to the first that judges.
 pub fn row_length(taps: u32) -> usize
     ensures { result ≡ min taps 64 }
 {
@@ -19,7 +20,8 @@ pub fn bank_length(taps: u32) -> usize
     64 * row_length(taps)
 }
 
-// Puts a row of coefficients into a bank from a place on, and says where the next begins. What the bank has no place for is left out.
+// Puts a row of coefficients into a bank from a place on, and says where the next begins. What the bank has no place for is left out. With a slice of its own
+// for a row, each caller would reckon where the next begins, and hold that to the bank's end.
 pub fn keep_row(row: &[i64], bank: &mut [i32], from: usize) -> usize
     ensures next { result ≡ min (from + length row.now) (length bank.old) }
     ensures bank { bank.new ≡ sets bank.old from (map narrow_i32 row.now) }
@@ -32,7 +34,7 @@ pub fn keep_row(row: &[i64], bank: &mut [i32], from: usize) -> usize
     start + n
 }
 
-// Puts pair n into its two places of the sample values, if there are two.
+// Puts pair n into its two places of the sample values, if there are two. With these two alone as a slice it would still have to look whether there are two.
 #[tactic(auto, unfolding(crate::specs::Places::pair_at))]
 pub fn keep_pair(i: i64, q: i64, values: &mut [i16], n: usize)
     ensures { values.new ≡ pair_at values.old n i q }

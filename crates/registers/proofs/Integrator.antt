@@ -1,19 +1,15 @@
--- The sizes that the loop computes with: a gain times an error, and the integrator's ends, with the tests against them.
+-- The sizes that the loop computes with: a gain times an error, and the integrator's ends.
 -- A product of numbers of 16 and 32 bits, or of 32 bits and 2^16, is far from the ends of 64 bits.
-use Prim.Native.Nat.{ℕ, ◌^◌, ◌≤◌, ◌<◌}
-use mathlib.Core.Path.{◌≡◌}
+use Prim.Native.Nat.{ℕ, ◌^◌, ◌≤◌}
 use native.Mathlib.Nat.{le_refl}
 use native.Mathlib.Omega.{arith}
-use lib.IntN.{ℤ, pos, neg_ℤ, nat_abs, ◌-ℤ◌, ◌*ℤ◌, +ℤ_idl}
-use lib.Signed.{mag, le_z}
+use lib.IntN.{ℤ, pos, neg_ℤ, nat_abs, ◌*ℤ◌}
 use mir.Syntax.{w16, w32, w64}
-use mir.Val.{SFits, to_z, of_z}
-use mir.Facts.{to_z-of_z}
+use mir.Val.{SFits}
 use Rattle.arith.specs.Arith.{round_shift}
 use Rattle.arith.proofs.Magnitude.{abs_neg, abs-mul-le}
-use Rattle.arith.proofs.Bits.{sfit, fit-abs, held, widened}
+use Rattle.arith.proofs.Bits.{sfit, fit-abs}
 use Rattle.arith.proofs.Rounding.{round-abs}
-use Rattle.arith.proofs.Widths.{in64}
 
 -- ---- a gain of 16 bits times an error of 32, and that rounded
 
@@ -33,20 +29,3 @@ end_fits {m} f = sfit {z = m *ℤ pos 65536} (omega (arith, end-abs f))
 
 pub low_fits : {m : ℤ} → SFits w32 m → SFits w64 (neg_ℤ (m *ℤ pos 65536))
 low_fits {m} f = sfit {z = neg_ℤ (m *ℤ pos 65536)} (omega (arith, end-abs f, abs_neg (m *ℤ pos 65536)))
-
-pub end_is : {m : ℤ} → SFits w32 m → in64 (in64 (to_z w32 (of_z w32 m)) *ℤ pos 65536) ≡ m *ℤ pos 65536
-end_is f = simp (widened w64 tt f, to_z-of_z (end_fits f))
-
--- ---- the integrator's ends
-
--- the upper end, as the code computes it
-abbrev end : ℤ → ℤ
-end m = in64 (in64 (to_z w32 (of_z w32 m)) *ℤ pos 65536)
-
-module _ {m : ℤ} (f : SFits w32 m) where
-  -- the integrator, tested against both
-  pub low-test : (v : ℤ) → mag v < 2 ^ 63 → le_z (to_z w64 (of_z w64 (pos 0 -ℤ end m))) (to_z w64 (of_z w64 v)) ≡ le_z (neg_ℤ (m *ℤ pos 65536)) v
-  low-test v h = simp (end_is f, +ℤ_idl, to_z-of_z (low_fits f), held w64 v h)
-
-  pub high-test : (v : ℤ) → mag v < 2 ^ 63 → le_z (to_z w64 (of_z w64 v)) (end m) ≡ le_z v (m *ℤ pos 65536)
-  high-test v h = simp (end_is f, held w64 v h)

@@ -4,17 +4,17 @@
 mod correct;
 mod step;
 
-pub use step::is_due;
+pub use step::{is_due, is_held};
 
 // The errors that one symbol leaves: of the timing, and of the gain. They wait until the loop's delay is over.
-#[derive(Clone, Copy)]
+#[derive(Clone, Copy, Default)]
 pub struct Pending {
     pub e: i32,
     pub err: i32,
 }
 
 // The registers that change as a group with each sample and symbol.
-#[derive(Clone, Copy)]
+#[derive(Clone, Copy, Default)]
 pub struct Registers {
     // Phase word of the mixer, in 2^32ths of a turn.
     pub nco: u32,

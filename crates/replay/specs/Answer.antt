@@ -1,5 +1,5 @@
 -- Refusals as the numbers of a row.
-use Rattle.std.specs.Prelude.{Bool, List, [], ◌∷◌, ℤ, pos}
+use Rattle.std.specs.Prelude.{ℕ, ◌-◌, Bool, cond, nat_lt, List, [], ◌∷◌, ℤ, pos, negsuc}
 use Rattle.std.specs.Cmp.Lexicographic.{pointwise}
 use Rattle.std.specs.Ordering.{int_eq}
 use Rattle.params.specs.declared.ParamError.{ParamError}
@@ -7,7 +7,10 @@ use Rattle.params.specs.declared.ParamError.TheVariants.{Taps, BankLength, Coeff
 use Rattle.params.specs.Refusal.{bank_number, field_number}
 use Rattle.replay.specs.declared.answer.Answer.{Answer}
 use Rattle.replay.specs.declared.answer.Answer.TheVariants.{Alone, One, Three}
-use Rattle.rows.specs.Rows.{signed_bits}
+
+-- The number of 64 bits signed that has the bits of an unsigned one: rows have no other.
+unfoldable pub signed_bits : ℕ → ℤ
+signed_bits n = cond (nat_lt n 9223372036854775808) (pos n) (negsuc (18446744073709551615 - n))
 
 -- The refusal of a sheet: its number, and its values in the order in which they are carried.
 abbrev pub of_error : ParamError → Answer

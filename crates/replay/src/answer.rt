@@ -18,20 +18,21 @@ impl From<ParamError> for Answer {
 
     ghost from_gives = { λ e a. a ≡ of_error e };
 
+    #[tactic(auto, unfolding(crate::specs::Answer::signed_bits))]
     fn from(e: ParamError) -> Answer {
         let number = e.number();
         match e {
             ParamError::Coefficient { bank, phase, value } => Answer::Three(
                 number,
                 i64::from(bank as u8),
-                rows::i64_of(phase as u64),
+                (phase as u64).cast_signed(),
                 i64::from(value),
             ),
             ParamError::CoefficientSum { bank, phase, sum } => Answer::Three(
                 number,
                 i64::from(bank as u8),
-                rows::i64_of(phase as u64),
-                rows::i64_of(sum),
+                (phase as u64).cast_signed(),
+                sum.cast_signed(),
             ),
             ParamError::DetectorTaps { bank } => Answer::One(number, i64::from(bank as u8)),
             ParamError::Range { field } => Answer::One(number, i64::from(field as u8)),

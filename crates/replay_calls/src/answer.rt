@@ -15,6 +15,7 @@ impl Refusal for ParamError {
     }
 }
 
+// This and the next have the same words on two enums, each of which has its own `Params`: a trait for what they share would want an impl for either again.
 impl Refusal for FrontendError {
     fn answer(&self) -> Answer {
         match self {

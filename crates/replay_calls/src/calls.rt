@@ -1,4 +1,6 @@
 // What the rows do: some are kept for the calls to come, the others make a call on what is in force and have its answer (oracle/README.md, 'Rows of calls').
+ghost use Rattle.std.specs.Prelude.{◌≤◌};
+
 use crate::{answer, states};
 use fixed::Processed;
 use params::{Bank, Params, Sheet};
@@ -6,23 +8,52 @@ use replay::banks::Banks;
 use rows::Replay;
 use state::{Frontend, FrontendError};
 
+// The sample values of a row, and how many there are.
+#[derive(Drop)]
+struct Values {
+    room: [i16; 8192],
+    count: usize,
+    ghost within: { count ≤ 8192 },
+}
+
 // What is in force.
 #[derive(Drop)]
 pub(crate) struct Calls {
     params: Params,
     banks: Banks,
     state: Frontend,
-    // The sample values, and how many there are.
-    values: [i16; 8192],
-    given: usize,
-    // The output of the last block, and how many places of it the block was given.
+    values: Values,
+    // The output of the last block, and how many places of it the block was given. A row says how many, so they are held to the room once, where they are read.
     out: [i64; 81920],
     places: usize,
 }
 
+impl Values {
+    // By hand: an array of 8,192 has no Default.
+    fn none() -> Values {
+        Values {
+            room: [0; 8192],
+            count: 0,
+        }
+    }
+
+    fn keep(&mut self, numbers: &[i64]) {
+        for (value, number) in self.room.iter_mut().zip(numbers) {
+            *value = i16::try_from(*number).unwrap_or(0);
+        }
+        self.count = numbers.len().min(self.room.len());
+    }
+
+    fn kept(&self) -> &[i16] {
+        &self.room[..self.count]
+    }
+}
+
 // What an output holds at a place before a block is asked for: a number far below those of symbols.
 fn pattern(place: usize) -> i64 {
-    rows::i64_of(0xc000_0000_0000_0000u64.wrapping_sub(place as u64))
+    0xc000_0000_0000_0000u64
+        .wrapping_sub(place as u64)
+        .cast_signed()
 }
 
 // Whether an output has room for so many symbols, and still holds the pattern behind them.
@@ -42,10 +73,10 @@ fn is_block(numbers: &[i64], block: &Result<Processed, FrontendError>, out: &[i6
         Err(_) => (0, 0, 0),
     };
     let told = [
-        rows::i64_of(out.len() as u64),
-        rows::i64_of(count as u64),
-        rows::i64_of(taken as u64),
-        rows::i64_of(clips as u64),
+        (out.len() as u64).cast_signed(),
+        (count as u64).cast_signed(),
+        (taken as u64).cast_signed(),
+        (clips as u64).cast_signed(),
     ];
     numbers.starts_with(&told)
         && answer::is(block, rows::rest(numbers, 4))
@@ -59,8 +90,7 @@ impl Calls {
             params: fields::none(),
             banks: Banks::none(),
             state: states::of_numbers(&[]),
-            values: [0; 8192],
-            given: 0,
+            values: Values::none(),
             out: [0; 81920],
             places: 0,
         }
@@ -77,14 +107,6 @@ impl Calls {
             }
             Err(_) => Some(false),
         }
-    }
-
-    // Row 7: sample values.
-    fn keep_values(&mut self, numbers: &[i64]) {
-        for (value, number) in self.values.iter_mut().zip(numbers) {
-            *value = i16::try_from(*number).unwrap_or(0);
-        }
-        self.given = numbers.len().min(self.values.len());
     }
 
     // ---- calls
@@ -123,9 +145,12 @@ impl Calls {
         }
         self.places = (rows::at(numbers, 0).cast_unsigned() as usize).min(out.len());
         let sheet = self.banks.sheet(self.params);
-        let given = self.given.min(self.values.len());
-        let values = &self.values[..given];
-        let block = fixed::process(&mut self.state, &sheet, values, &mut out[..self.places]);
+        let block = fixed::process(
+            &mut self.state,
+            &sheet,
+            self.values.kept(),
+            &mut out[..self.places],
+        );
         is_block(numbers, &block, &out[..self.places])
     }
 
@@ -145,7 +170,7 @@ impl Calls {
             Ok(r) => [
                 i64::from(r.period),
                 i64::from(r.gain),
-                rows::i64_of(r.symbols),
+                r.symbols.cast_signed(),
             ],
             Err(_) => [0; 3],
         };
@@ -155,7 +180,7 @@ impl Calls {
     // Row 13: asking.
     fn is_asked(&self, numbers: &[i64]) -> bool {
         let asked = retune::ask(&self.state, &self.sheet());
-        let ticket = rows::i64_of(asked.unwrap_or(0));
+        let ticket = asked.unwrap_or(0).cast_signed();
         numbers.starts_with(&[ticket]) && answer::is(&asked, rows::rest(numbers, 1))
     }
 
@@ -182,7 +207,7 @@ impl Replay for Calls {
             4 => return Some(self.is_judged(numbers)),
             5 => return Some(self.is_offset(numbers)),
             6 => self.state = states::of_numbers(numbers),
-            7 => self.keep_values(numbers),
+            7 => self.values.keep(numbers),
             8 => return Some(self.is_started(numbers)),
             9 => return Some(states::is(&self.state, numbers)),
             10 => return Some(self.is_processed(numbers)),

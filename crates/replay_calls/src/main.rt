@@ -12,6 +12,7 @@ use calls::Calls;
 use rows::Report;
 use std::io;
 
+// As in the other replays but for what is replayed, a row's places and the report's words: a function for all three would take these, and be no shorter.
 fn main(rt: HostRuntime) -> io::Result<()> {
     let tally = rows::run(&mut rt.stdin(), &mut [0; 8192], &mut Calls::new())?;
     let report = Report {

@@ -72,11 +72,11 @@ pub(crate) fn is(state: &Frontend, numbers: &[i64]) -> bool {
         registers.v,
         i64::from(registers.period),
         i64::from(registers.gain_acc),
-        rows::i64_of(registers.symbols),
-        rows::i64_of(state.head as u64),
-        rows::i64_of(state.oldest as u64),
-        rows::i64_of(state.waiting as u64),
-        rows::i64_of(state.samples),
+        registers.symbols.cast_signed(),
+        (state.head as u64).cast_signed(),
+        (state.oldest as u64).cast_signed(),
+        (state.waiting as u64).cast_signed(),
+        state.samples.cast_signed(),
     ];
     let line = rows::rest(numbers, 28).chunks(2);
     let pending = rows::rest(numbers, 156).chunks(2);

@@ -54,29 +54,8 @@ fn are_registers(r: DesignRegisters, numbers: &[i64]) -> bool {
 
 // Whether these are 0 and a sheet's 18 fields.
 fn are_fields(p: Params, numbers: &[i64]) -> bool {
-    numbers
-        == [
-            0,
-            i64::from(p.taps),
-            i64::from(p.nco_step),
-            i64::from(p.period_nominal),
-            i64::from(p.period_min),
-            i64::from(p.period_max),
-            i64::from(p.ted_shift),
-            i64::from(p.kp),
-            i64::from(p.kp_shift),
-            i64::from(p.ki),
-            i64::from(p.ki_shift),
-            i64::from(p.integrator_max),
-            i64::from(p.agc_init),
-            i64::from(p.agc_target),
-            i64::from(p.agc_shift),
-            i64::from(p.bits),
-            i64::from(p.q_shift),
-            i64::from(p.block_log2),
-            i64::from(p.delay),
-        ]
-        .as_slice()
+    let mut told = [0; 19];
+    places::write_sheet(p, &mut told[1..]).is_ok() && numbers == told.as_slice()
 }
 
 // Whether a number is what the component with this bit pattern becomes.

@@ -45,7 +45,7 @@ impl Floats {
     pub(crate) fn new() -> Floats {
         Floats {
             banks: Banks::none(),
-            gains: gains_of(&[]),
+            gains: Gains::default(),
         }
     }
 

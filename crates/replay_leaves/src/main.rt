@@ -8,7 +8,7 @@ use std::io;
 // The leaves, with the wheel that the mixer reads.
 #[derive(Drop)]
 struct Leaves {
-    wheel: [i16; 1024],
+    wheel: &'static [i16; 1024],
 }
 
 impl Leaves {
@@ -35,6 +35,7 @@ impl Replay for Leaves {
     }
 }
 
+// As in the other replays but for what is replayed, a row's places and the report's words: a function for all three would take these, and be no shorter.
 fn main(rt: HostRuntime) -> io::Result<()> {
     let mut leaves = Leaves {
         wheel: tables::cos_table(),

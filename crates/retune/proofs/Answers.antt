@@ -1,13 +1,12 @@
 -- What a retune answers, and what its answer tells of the faults. Each fault has a number other than 0, so an answer of nothing says that there is none.
 use Prim.Native.Nat.{ℕ, ◌<◌}
-use mathlib.Core.Path.{◌≡◌, refl, ap}
-use mathlib.Core.Bool.{Bool, true, false, cond}
+use mathlib.Core.Path.{◌≡◌, refl}
+use mathlib.Core.Bool.{true}
 use mathlib.Core.List.{[], flatten}
 use lib.Dec.{eqb, lit<}
 use Rattle.params.specs.declared.Params.{Params as Fields}
-use Rattle.params.specs.declared.ParamError.{ParamError}
-use Rattle.params.specs.Refusal.{Refusal, refusal, nothing, error_refusal, unless, first_of}
-use Rattle.params.specs.Judge.{Sheet, faults, judged}
+use Rattle.params.specs.Refusal.{refusal, first_of}
+use Rattle.params.specs.Judge.{Sheet, faults}
 use Rattle.params.proofs.Faults.{Numbered, numbered-append, numbered-unless, first-none, error-numbered, faults-numbered}
 use Rattle.params.proofs.Faults.{kept, none-at, none_left, none_right}
 use borrow.Author.Tests.{eq-eqb, eqb-true}
@@ -17,11 +16,11 @@ use Rattle.state.proofs.Answers.{refuses, refused_first, none_first_told}
 use Rattle.retune.specs.declared.RetuneError.{RetuneError}
 use Rattle.retune.specs.declared.RetuneError.TheVariants.{Params, State, Taps, Ticket}
 use Rattle.retune.specs.Refusal.{retune_refusal}
-use Rattle.retune.specs.Retune.{held_faults, ask_faults, commit_faults, Ask, ask_of, retuned, Commit, commit_of}
+use Rattle.retune.specs.Retune.{held_faults, ask_faults, commit_faults, ask_of, commit_of}
 
 -- ---- faults are numbered
 
-retune-numbered : (e : RetuneError) → 0 < (retune_refusal e).number
+pub retune-numbered : (e : RetuneError) → 0 < (retune_refusal e).number
 retune-numbered (Params e) = error-numbered e
 retune-numbered State = lit< tt
 retune-numbered Taps = lit< tt
@@ -39,50 +38,6 @@ pub commit-numbered : (s : Sheet) (ticket : ℕ) (f : Frontend) → Numbered (co
 unfolding commit_faults
 commit-numbered s ticket f =
     numbered-append (ask_faults s f) _ (ask-numbered s f) (numbered-unless (eqb ticket f.registers.symbols) (refusal 28 []) (lit< tt))
-
--- ---- asking
-
--- a sheet that is refused, one that the state is against, and one that may be put into it
-pub refused_sheet : (s : Sheet) (f : Frontend) (e : ParamError) → error_refusal e ≡ judged s → ask_of s f ≡ record { refused = error_refusal e; ticket = 0 }
-unfolding ask_of ask_faults judged
-refused_sheet s f e told = rw (refused_first (faults s) _ _ (error-numbered e) told, refuses (error_refusal e) (error-numbered e))
-
-pub refused_ask : (s : Sheet) (f : Frontend) (e : RetuneError) → nothing ≡ judged s → retune_refusal e ≡ first_of (held_faults s.params f)
-    → ask_of s f ≡ record { refused = retune_refusal e; ticket = 0 }
-unfolding ask_of ask_faults judged
-refused_ask s f e accepted told =
-    rw (none_first_told (faults s) _ (faults-numbered s) accepted, ← told, refuses (retune_refusal e) (retune-numbered e))
-
-pub accepted_ask : (s : Sheet) (f : Frontend) → nothing ≡ judged s → nothing ≡ first_of (held_faults s.params f)
-    → ask_of s f ≡ record { refused = nothing; ticket = f.registers.symbols }
-unfolding ask_of ask_faults judged
-accepted_ask s f accepted told = rw (none_first_told (faults s) _ (faults-numbered s) accepted, ← told)
-
--- ---- committing
-
--- what asking refuses, a commit refuses
-pub refused_commit : (s : Sheet) (ticket : ℕ) (f : Frontend) (e : RetuneError)
-    → ◌≡◌ {A = Ask} (record { refused = retune_refusal e; ticket = 0 }) (ask_of s f)
-    → commit_of s ticket f ≡ record { refused = retune_refusal e; state = f }
-unfolding ask_of commit_of commit_faults
-refused_commit s ticket f e told =
-    rw (refused_first (ask_faults s f) _ _ (retune-numbered e) (ap (λ (a : Ask). a.refused) told), refuses (retune_refusal e) (retune-numbered e))
-
--- and where it refuses nothing, the ticket decides
-pub accepted_commit : (s : Sheet) (ticket : ℕ) (f : Frontend) → nothing ≡ (ask_of s f).refused
-    → commit_of s ticket f
-    ≡ cond (eqb ticket (ask_of s f).ticket) (record { refused = nothing; state = record f { params = s.params } })
-    (record { refused = refusal 28 []; state = f })
-unfolding ask_of commit_of commit_faults retuned
-accepted_commit s ticket f none =
-    rw (none_first_told (ask_faults s f) _ (ask-numbered s f) none, ← none) (go (eqb ticket f.registers.symbols))
-  where
-    go : (b : Bool)
-        → let r : Refusal = first_of (unless b (refusal 28 [])) in
-        ◌≡◌ {A = Commit} (record { refused = r; state = cond (eqb r.number 0) (retuned s.params f) f })
-        (cond b (record { refused = nothing; state = retuned s.params f }) (record { refused = refusal 28 []; state = f }))
-    go true = refl
-    go false = refl
 
 -- ---- where there is no fault
 
@@ -126,3 +81,6 @@ commits-none s ticket f none e = rw (none, eq-eqb ticket f.registers.symbols e) 
 pub ticket_is : (s : Sheet) (f : Frontend) → (ask_of s f).refused.number ≡ 0 → (ask_of s f).ticket ≡ f.registers.symbols
 unfolding ask_of
 ticket_is s f e = rw (eq-eqb (first_of (ask_faults s f)).number 0 e) refl
+
+-- what is told of a sheet, then of a state, then of a ticket
+pub ruleset told = (retune-numbered, refuses, refused_first, none_first_told, ask-numbered)

@@ -23,7 +23,7 @@ pub enum RetuneError {
 }
 
 // Whether a sheet may be put into a state.
-#[tactic(auto, using(crate::proofs::Answers::refused_sheet, crate::proofs::Answers::refused_ask, crate::proofs::Answers::accepted_ask))]
+#[tactic(auto, using(params::proofs::Accepted::judging, crate::proofs::Answers::told), unfolding(crate::specs::Retune::ask_of, crate::specs::Retune::ask_faults))]
 pub fn ask(f: &Frontend, sheet: &Sheet<'_>) -> Result<u64, RetuneError>
     ensures { asked result ≡ ask_of sheet.now f.now }
 {
@@ -33,7 +33,7 @@ pub fn ask(f: &Frontend, sheet: &Sheet<'_>) -> Result<u64, RetuneError>
 }
 
 // Puts a sheet into a state, with the ticket that asking gave. A state that it refuses stays as it was.
-#[tactic(auto, using(crate::proofs::Answers::refused_commit, crate::proofs::Answers::accepted_commit))]
+#[tactic(auto, using(crate::proofs::Answers::told), unfolding(crate::specs::Retune::commit_of, crate::specs::Retune::commit_faults, crate::specs::Retune::ask_of, crate::specs::Retune::retuned))]
 pub fn commit(f: &mut Frontend, ticket: u64, sheet: &Sheet<'_>) -> Result<(), RetuneError>
     ensures { committed result f.new ≡ commit_of sheet.now ticket f.old }
 {

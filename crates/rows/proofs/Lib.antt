@@ -1,3 +1,2 @@
--- Laws of reading a row, and of the rows of an input.
-mod Reading
+-- Laws of the rows of an input.
 mod WholeRows

@@ -3,7 +3,7 @@ use Rattle.std.specs.Prelude.{◌≡◌, ℕ, Bool, false, cond, nat_le, List, [
 use Rattle.std.specs.Io.KnownBytes.{Consumes, IsAtEnd}
 use Rattle.rows.specs.declared.Tally.{Tally}
 use Rattle.rows.specs.declared.program.Report.{Report}
-use Rattle.rows.specs.Rows.{ReadRow, read, begun, moved, with_byte, one_counted}
+use Rattle.rows.specs.Rows.{ReadRow, read, begun, with_byte, one_counted}
 
 -- The numbers of a row; none where it has more than there are places for.
 abbrev pub numbers_of : ℕ → List ℤ → Option (List ℤ)
@@ -12,10 +12,6 @@ numbers_of columns row = cond (nat_le columns (length row)) (Some (take columns 
 -- A row that goes on, or begins where the one before has ended.
 abbrev pub opened : ReadRow → ReadRow
 opened s = read (begun s.cursor) s.row
-
--- The same place of a row, at the start of the next bytes.
-abbrev pub placed : ReadRow → ReadRow
-placed s = read (moved s.cursor 0) s.row
 
 -- With all of some bytes, over the ends of rows.
 unfoldable pub after : ReadRow → List ℕ → ReadRow
@@ -59,7 +55,8 @@ ReadWhole old new P = (bytes : List ℕ) × Consumes old new bytes × IsAtEnd ne
 -- What a report says: how many answers were compared and how many differ, and where one does, the first. Its own words stand between the numbers.
 abbrev pub report_text : Report → List ℕ
 report_text r =
-    decimal r.tally.rows ++ (codes " answers " ++ (r.of.now ++ (codes " compared, " ++ (decimal r.tally.wrong ++ (codes " differ" ++ first_text r.tally.first)))))
+    decimal r.tally.rows ++ (codes " answers " ++ (r.of.now ++ (codes " compared, "
+    ++ (decimal r.tally.wrong ++ (codes " differ" ++ first_text r.tally.first)))))
   where
     first_text : Option ℕ → List ℕ
     first_text None = []

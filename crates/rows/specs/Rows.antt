@@ -1,5 +1,5 @@
 -- Numbers and rows as text, and the counts of a replay.
-use Rattle.std.specs.Prelude.{ℕ, None, Some, ◌+◌, ◌-◌, ◌*◌, ◌%◌, ◌^◌, ◌≤◌, min, max, Bool, true, false, cond, ◌||◌, List, [], ◌∷◌, drop, ℤ, pos, negsuc, ◌-ℤ◌, ◌==◌, nat_lt, slice_set}
+use Rattle.std.specs.Prelude.{ℕ, None, Some, ◌+◌, ◌-◌, ◌*◌, ◌%◌, ◌^◌, Bool, true, false, cond, ◌||◌, List, ℤ, pos, negsuc, ◌-ℤ◌, ◌==◌, nat_lt, slice_set}
 use Rattle.rows.specs.declared.Number.{Number}
 use Rattle.rows.specs.declared.Cursor.{Cursor}
 use Rattle.rows.specs.declared.Tally.{Tally}
@@ -24,16 +24,9 @@ signed_value n =
     cond n.minus (cond (nat_lt 9223372036854775807 n.size) (negsuc 9223372036854775807) (pos 0 -ℤ pos n.size))
     (cond (nat_lt 9223372036854775807 n.size) (pos 9223372036854775807) (pos n.size))
 
--- The number of 64 bits signed that has the bits of an unsigned one.
-unfoldable pub signed_bits : ℕ → ℤ
-signed_bits n = cond (nat_lt n 9223372036854775808) (pos n) (negsuc (18446744073709551615 - n))
-
--- A cursor before the first byte of the first row, and one at another byte of its piece.
+-- A cursor before the first byte of the first row.
 abbrev pub start : Cursor
-start = record { at = 0; column = 0; number = no_number; ended = false }
-
-abbrev pub moved : Cursor → ℕ → Cursor
-moved c at = record { at = at; column = c.column; number = c.number; ended = c.ended }
+start = record { column = 0; number = no_number; ended = false }
 
 -- A cursor, and the numbers of the row that it is in.
 pub record ReadRow : Type 0 where
@@ -52,27 +45,13 @@ unfoldable pub with_byte : ReadRow → ℕ → ReadRow
 with_byte s b =
     let c : Cursor = s.cursor in
     cond (ends_number b)
-    (read (record { at = c.at + 1; column = (c.column + 1) % 2 ^ 64; number = no_number; ended = (b == 10) })
+    (read (record { column = (c.column + 1) % 2 ^ 64; number = no_number; ended = (b == 10) })
     (slice_set s.row c.column (signed_value c.number)))
-    (read (record { at = c.at + 1; column = c.column; number = digit_added c.number b; ended = false }) s.row)
-
--- With the bytes up to the first line feed, or with all where there is none.
-unfoldable pub with_bytes : ReadRow → List ℕ → ReadRow
-with_bytes s [] = s
-with_bytes s (b ∷ bs) = cond (b == 10) (with_byte s b) (with_bytes (with_byte s b) bs)
+    (read (record { column = c.column; number = digit_added c.number b; ended = false }) s.row)
 
 -- A cursor that reads on, in a new row where the one before has ended.
 abbrev pub begun : Cursor → Cursor
-begun c = record { at = c.at; column = cond c.ended 0 c.column; number = c.number; ended = false }
-
--- What reading on from a cursor in a piece of bytes leaves, of a row that held these numbers.
-unfoldable pub row_read : Cursor → List ℕ → List ℤ → ReadRow
-row_read c bytes row = with_bytes (read (begun c) row) (drop c.at bytes)
-
--- A cursor that has read on in a piece of n bytes: not past the end and, unless it stood there, at least one byte.
-pub record Advanced (before : Cursor) (n : ℕ) (after : Cursor) : Type 0 where
-  pub inside : after.at ≤ max before.at n
-  pub onward : min (before.at + 1) n ≤ after.at
+begun c = record { column = cond c.ended 0 c.column; number = c.number; ended = false }
 
 -- Nothing compared yet.
 abbrev pub none_counted : Tally

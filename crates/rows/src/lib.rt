@@ -1,8 +1,8 @@
 // Rows of decimal numbers separated by commas, as the replay programs read the oracle's answers; the numbers of a row; and how many answers agreed.
 #![tactic(auto)]
 
-ghost use Rattle.std.specs.Prelude.{◌≡◌, ◌-◌, ◌^◌, ◌<◌, length, drop, pos, slice_index_or, slice_set};
-ghost use Rattle.rows.specs.Rows.{digit_added, signed_value, with_byte, begun, read, row_read, Advanced, one_counted, signed_bits};
+ghost use Rattle.std.specs.Prelude.{◌≡◌, drop, pos, slice_index_or, slice_set};
+ghost use Rattle.rows.specs.Rows.{digit_added, signed_value, with_byte, begun, read, one_counted};
 
 mod program;
 
@@ -10,28 +10,27 @@ pub use program::{Replay, Report, run};
 
 // A number while its digits come in.
 #[derive(Clone, Copy, Default)]
-pub struct Number {
-    pub size: u64,
-    pub minus: bool,
+struct Number {
+    size: u64,
+    // Whether a sign has come. Digits may stand before it, so it is no case of the size.
+    minus: bool,
 }
 
 // Where the reading of a row stands. The bytes come in pieces, and a row may go on in the next piece.
 #[derive(Clone, Copy, Default)]
-pub struct Cursor {
-    // The next byte of the piece.
-    pub at: usize,
+struct Cursor {
     // How many numbers of the row are read.
-    pub column: usize,
-    pub number: Number,
-    // Whether the row has ended, and the next byte begins another.
-    pub ended: bool,
+    column: usize,
+    number: Number,
+    // Whether the row has ended, and the next byte begins another. No value goes with it: the column still says how many numbers the row had.
+    ended: bool,
 }
 
 impl Number {
     // Takes one more byte. A byte that is neither a digit nor a sign changes nothing, and so does a digit past the
     // nineteenth, the last that an i64 can have.
     #[tactic(auto, unfolding(crate::specs::Rows::digit_added))]
-    pub fn push(&mut self, b: u8)
+    fn push(&mut self, b: u8)
         ensures { self.new ≡ digit_added self.old b }
     {
         match b {
@@ -45,7 +44,7 @@ impl Number {
 
     // As an i64, held to its range.
     #[tactic(auto, unfolding(crate::specs::Rows::signed_value))]
-    pub fn value(self) -> i64
+    fn value(self) -> i64
         ensures { result ≡ signed_value self }
     {
         if self.minus {
@@ -55,7 +54,7 @@ impl Number {
         }
     }
 
-    // Stores the value where the row has a place for it.
+    // Stores the value where the row has a place for it. By an index, which needs no proof by hand; what is written through `get_mut` does.
     fn put(self, row: &mut [i64], column: usize)
         ensures { row.new ≡ slice_set row.old column (signed_value self) }
     {
@@ -79,10 +78,8 @@ impl Cursor {
     // Takes the next byte of a row.
     #[tactic(auto, unfolding(crate::specs::Rows::with_byte, crate::specs::Rows::ends_number))]
     fn byte(&mut self, b: u8, row: &mut [i64])
-        requires { self.old.at < 2 ^ 64 - 1 }
         ensures { read self.new row.new ≡ with_byte (read self.old row.old) b }
     {
-        self.at += 1;
         self.ended = b == b'\n';
         if b == b',' || self.ended {
             self.number.put(row, self.column);
@@ -92,57 +89,34 @@ impl Cursor {
             self.number.push(b);
         }
     }
-
-    // Reads on to the end of a row or of the piece. Numbers for which the row has no place are passed over.
-    #[tactic(auto, using(crate::proofs::Reading::moves_on, crate::proofs::Reading::goes_on, crate::proofs::Reading::stops), unfolding(crate::specs::Rows::row_read))]
-    pub fn row(&mut self, bytes: &[u8], row: &mut [i64])
-        ensures numbers { read self.new row.new ≡ row_read self.old bytes.now row.old }
-        ensures onward { Advanced self.old (length bytes.now) self.new }
-    {
-        self.begin();
-        for b in rest(bytes, self.at) {
-            self.byte(*b, row);
-            if self.ended {
-                return;
-            }
-        }
-    }
 }
 
-// The number at a place; 0 where the row has none.
+// The number at a place; 0 where the row has none. At more than twenty places that read a row, the library's three calls would hide which number is read.
 pub fn at(row: &[i64], place: usize) -> i64
     ensures { result ≡ slice_index_or row.now place (pos 0) }
 {
     row.get(place).copied().unwrap_or(0)
 }
 
-// What stands from a place on.
+// What stands from a place on: nothing behind the end. `row.get(from..).unwrap_or(&[])` says the same at more length, at a dozen places.
 pub fn rest<T>(row: &[T], from: usize) -> &[T]
     ensures { result.now ≡ drop from row.now }
 {
     &row[from.min(row.len())..]
 }
 
-// The number of a row that has the bits of an unsigned one: rows have no other.
-#[tactic(auto, unfolding(crate::specs::Rows::signed_bits))]
-pub fn i64_of(n: u64) -> i64
-    ensures { result ≡ signed_bits n }
-{
-    n.cast_signed()
-}
-
 // How many answers were compared, how many differed, and the row of the first that did.
 #[derive(Clone, Copy, Default)]
 pub struct Tally {
-    pub rows: u64,
-    pub wrong: u64,
-    pub first: Option<u64>,
+    rows: u64,
+    wrong: u64,
+    first: Option<u64>,
 }
 
 impl Tally {
     // Counts one answer more.
     #[tactic(auto, unfolding(crate::specs::Rows::one_counted))]
-    pub fn count(&mut self, same: bool)
+    fn count(&mut self, same: bool)
         ensures { self.new ≡ one_counted self.old same }
     {
         self.rows = self.rows.wrapping_add(1);

@@ -2,7 +2,7 @@
 ghost use Rattle.std.specs.Prelude.{◌≡◌, List, ℤ, Option, Bool, Some, IfOk};
 ghost use Rattle.std.specs.List.{FoldsTo};
 ghost use Rattle.rows.specs.Rows.{read, start, none_counted};
-ghost use Rattle.rows.specs.Program.{numbers_of, placed, after, rows_in, counted, Answers, Takes, ReadWhole, report_text};
+ghost use Rattle.rows.specs.Program.{numbers_of, after, rows_in, counted, Answers, Takes, ReadWhole, report_text};
 
 use crate::{Cursor, Tally};
 use std::io::Read;
@@ -29,10 +29,9 @@ struct Progress {
 fn answer<R: Replay>(row: &[i64], columns: usize, replay: &mut R) -> Option<bool>
     ensures { Answers R.gives replay.old (numbers_of columns row.now) result replay.new }
 {
-    if columns <= row.len() {
-        replay.take(&row[..columns])
-    } else {
-        Some(false)
+    match row.get(..columns) {
+        Some(numbers) => replay.take(numbers),
+        None => Some(false),
     }
 }
 
@@ -50,12 +49,11 @@ impl Progress {
     fn piece<R: Replay>(&mut self, bytes: &[u8], row: &mut [i64], replay: &mut R)
         ensures rows { FoldsTo (Takes R.gives) (counted replay.old self.old.tally)
             (rows_in (read self.old.cursor row.old) bytes.now) (counted replay.new self.new.tally) }
-        ensures place { placed (read self.new.cursor row.new) ≡ placed (after (read self.old.cursor row.old) bytes.now) }
+        ensures place { read self.new.cursor row.new ≡ after (read self.old.cursor row.old) bytes.now }
     {
-        self.cursor.at = 0;
-        // A turn takes the bytes of a row, and no range has their number.
-        while self.cursor.at < bytes.len() {
-            self.cursor.row(bytes, row);
+        for b in bytes {
+            self.cursor.begin();
+            self.cursor.byte(*b, row);
             if self.cursor.ended {
                 take_row(row, self.cursor.column, replay, &mut self.tally);
             }

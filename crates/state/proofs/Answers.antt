@@ -8,19 +8,17 @@ use mathlib.Core.List.{List, [], ◌++◌, flatten}
 use native.Mathlib.Omega.{arith}
 use lib.Dec.{eqb, leb, lit<}
 use Rattle.arith.proofs.Both.{and_left}
-use Rattle.params.specs.declared.ParamError.{ParamError}
-use Rattle.params.specs.Refusal.{Refusal, refusal, nothing, error_refusal, unless, first_of}
+use Rattle.params.specs.Refusal.{Refusal, refusal, nothing, first_of}
 use Rattle.params.specs.Judge.{Sheet, faults, judged}
 use Rattle.params.proofs.Faults.{Numbered, numbered-append, numbered-unless, first-none, none_first, first-append, error-numbered, faults-numbered}
 use Rattle.params.proofs.Faults.{kept, none-at, none_left, none_right}
 use Rattle.params.proofs.Accepted.{Accepted, no-faults}
-use Rattle.fields.specs.Fields.{no_fields, same_fields}
+use Rattle.fields.specs.Fields.{same_fields}
 use Rattle.fields.proofs.Same.{equal-sheets}
 use Rattle.registers.specs.Step.{gain_of}
 use Rattle.state.specs.declared.Frontend.{Frontend}
 use Rattle.state.specs.declared.FrontendError.{FrontendError}
 use Rattle.state.specs.declared.FrontendError.TheVariants.{Params, State, OddInput, ShortOutput, TooManySamples}
-use Rattle.state.specs.Start.{fresh, start_of}
 use Rattle.state.specs.Read.{read_of}
 use Rattle.state.specs.Check.{good_state, can_go_on, state_faults, pairs_taken, size_faults, block_faults, frontend_refusal}
 use Rattle.state.proofs.Going.{going}
@@ -63,39 +61,7 @@ pub block-numbered : (s : Sheet) (f : Frontend) (values places : ℕ) → Number
 unfolding block_faults
 block-numbered s f values places = numbered-append (state_faults s f) _ (state-numbered s f) (sizes-numbered f values places)
 
--- ---- starting
-
-pub refused_start : (s : Sheet) (e : ParamError) → error_refusal e ≡ judged s → start_of s ≡ record { refused = error_refusal e; state = fresh no_fields }
-unfolding start_of
-refused_start s e told = rw (← told, refuses (error_refusal e) (error-numbered e))
-
-pub accepted_start : (s : Sheet) → nothing ≡ judged s → start_of s ≡ record { refused = nothing; state = fresh s.params }
-unfolding start_of
-accepted_start s told = rw (← told)
-
--- ---- a sheet, then a state
-
--- what judging refuses, all calls refuse
-pub refused_sheet : (s : Sheet) (f : Frontend) (e : ParamError) → error_refusal e ≡ judged s → first_of (state_faults s f) ≡ error_refusal e
-unfolding judged
-refused_sheet s f e told = refused_first (faults s) _ _ (error-numbered e) told
-
--- of an accepted sheet the state's test decides
-pub accepted_sheet : (s : Sheet) (f : Frontend) → nothing ≡ judged s → first_of (state_faults s f) ≡ first_of (unless (can_go_on s.params f) (refusal 9 []))
-unfolding judged
-accepted_sheet s f told = none_first_told (faults s) _ (faults-numbered s) told
-
--- ---- a state, then a block's sizes
-
-pub refused_state : (s : Sheet) (f : Frontend) (values places : ℕ) (e : FrontendError) → frontend_refusal e ≡ first_of (state_faults s f)
-    → first_of (block_faults s f values places) ≡ frontend_refusal e
-unfolding block_faults
-refused_state s f values places e told = refused_first (state_faults s f) _ _ (frontend-numbered e) told
-
-pub accepted_state : (s : Sheet) (f : Frontend) (values places : ℕ) → nothing ≡ first_of (state_faults s f)
-    → first_of (block_faults s f values places) ≡ first_of (size_faults f values places)
-unfolding block_faults
-accepted_state s f values places told = none_first_told (state_faults s f) _ (state-numbered s f) told
+-- ---- a block's sizes
 
 -- a block takes at most half of the values' number
 pub few_pairs : (values places : ℕ) → (pairs_taken values places ≡ pairs_taken values places) × (2 * pairs_taken values places ≤ values)
@@ -165,11 +131,6 @@ faultless s f values places e =
 
 -- ---- reading
 
-pub refused_read : (s : Sheet) (f : Frontend) (e : FrontendError) → frontend_refusal e ≡ first_of (state_faults s f)
-    → read_of s f ≡ record { refused = frontend_refusal e; period = 0; gain = 0; symbols = 0 }
-unfolding read_of
-refused_read s f e told = rw (← told, refuses (frontend_refusal e) (frontend-numbered e))
-
 -- an accepted state's gain accumulator has 24 bits, so that nothing of its gain is dropped
 pub accepted_read : (s : Sheet) (f : Frontend) → nothing ≡ first_of (state_faults s f)
     → read_of s f ≡ record { refused = nothing; period = f.registers.period; gain = gain_of f.registers % 65536; symbols = f.registers.symbols }
@@ -179,3 +140,6 @@ accepted_read s f told =
     let few : f.registers.gain_acc ≤ 16777215 = (going s.params f (state-good s f none)).loop.gain in
     let small : gain_of f.registers % 65536 ≡ gain_of f.registers = omega (arith, few) in
     rw (none, small) refl
+
+-- what is told of a sheet, then of a state, then of a block's sizes
+pub ruleset told = (none_told, refused_first, none_first_told, refuses, state-numbered, frontend-numbered)

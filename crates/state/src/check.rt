@@ -24,7 +24,7 @@ impl Frontend {
     }
 
     // 1 to 8, 29, then 9.
-    #[tactic(auto, using(crate::proofs::Answers::refused_sheet, crate::proofs::Answers::accepted_sheet))]
+    #[tactic(auto, using(params::proofs::Accepted::judging), unfolding(crate::specs::Check::state_faults))]
     pub(crate) fn check_state(&self, sheet: &Sheet<'_>) -> Result<(), FrontendError>
         ensures { answer_refusal frontend_refusal result ≡ first_of (state_faults sheet.now self.now) }
     {
@@ -36,7 +36,7 @@ impl Frontend {
     }
 
     // 1 to 8, 29, then 9 to 12, of a block with so many sample values and output places.
-    #[tactic(auto, using(crate::proofs::Answers::refused_state, crate::proofs::Answers::accepted_state))]
+    #[tactic(auto, using(crate::proofs::Answers::told), unfolding(crate::specs::Check::block_faults))]
     pub fn check_block(
         &self,
         sheet: &Sheet<'_>,

@@ -34,22 +34,14 @@ impl Frontend {
 fn is_soon(t: i64) -> bool
     ensures { result ≡ (le_z (pos 0) t && lt_z t (pos 67108864)) }
 {
-    0 <= t && t < 0x400_0000
-}
-
-// Whether the integrator stands between the ends of a sheet.
-fn is_held(v: i64, integrator_max: i32) -> bool
-    ensures { result ≡ within (neg_ℤ (integrator_max *ℤ pos 65536)) (integrator_max *ℤ pos 65536) v }
-{
-    let end = i64::from(integrator_max) * 65536;
-    -end <= v && v <= end
+    (0..0x400_0000).contains(&t)
 }
 
 // Whether the period and the gain are within the bounds of a sheet.
 fn is_tracking(r: &Registers, p: &Params) -> bool
     ensures { result ≡ (nat_le p.now.period_min r.now.period && nat_le r.now.period p.now.period_max && nat_le r.now.gain_acc 16777215) }
 {
-    p.period_min <= r.period && r.period <= p.period_max && r.gain_acc <= 0xff_ffff
+    (p.period_min..=p.period_max).contains(&r.period) && r.gain_acc <= 0xff_ffff
 }
 
 // Whether the registers are within their bounds under a sheet.
@@ -57,5 +49,5 @@ fn are_good(r: &Registers, p: &Params) -> bool
     ensures { result ≡ (le_z (pos 0) r.now.t_acc && lt_z r.now.t_acc (pos 67108864) && within (neg_ℤ (integrator_end p.now)) (integrator_end p.now) r.now.v
         && nat_le p.now.period_min r.now.period && nat_le r.now.period p.now.period_max && nat_le r.now.gain_acc 16777215) }
 {
-    is_soon(r.t_acc) && is_held(r.v, p.integrator_max) && is_tracking(r, p)
+    is_soon(r.t_acc) && registers::is_held(r.v, p.integrator_max) && is_tracking(r, p)
 }

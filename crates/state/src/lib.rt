@@ -16,8 +16,9 @@ use registers::{Pending, Registers};
 // Places of the ring in which errors wait, at every delay: as many as the longest delay takes.
 pub const RING_PLACES: usize = 24;
 
-// A sample, as it is mixed and kept in the line: in phase and in quadrature.
-#[derive(Clone, Copy)]
+// A sample, as it is mixed and kept in the line: in phase and in quadrature. No generic type is shared with symbol's Sums and Output: contracts see all three
+// widths as integers, so the definitions could take a sum or an output for a sample.
+#[derive(Clone, Copy, Default)]
 pub struct Pair {
     pub i: i32,
     pub q: i32,

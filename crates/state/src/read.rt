@@ -7,7 +7,7 @@ use params::Sheet;
 
 impl Frontend {
     // Reading a state (RULES 4.3).
-    #[tactic(auto, using(crate::proofs::Answers::refused_read, crate::proofs::Answers::accepted_read))]
+    #[tactic(auto, using(crate::proofs::Answers::told, crate::proofs::Answers::accepted_read), unfolding(crate::specs::Read::read_of))]
     pub fn read(&self, sheet: &Sheet<'_>) -> Result<Reading, FrontendError>
         ensures { reading result ≡ read_of sheet.now self.now }
     {

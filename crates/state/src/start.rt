@@ -13,19 +13,16 @@ impl Frontend {
         ensures { result ≡ fresh p }
     {
         let registers = Registers {
-            nco: 0,
-            t_acc: 0,
-            v: 0,
             period: p.period_nominal,
             gain_acc: p.agc_init,
-            symbols: 0,
+            ..Registers::default()
         };
         Frontend {
             params: p,
             registers,
-            line: [Pair { i: 0, q: 0 }; 64],
+            line: [Pair::default(); 64],
             head: 0,
-            pending: [Pending { e: 0, err: 0 }; RING_PLACES],
+            pending: [Pending::default(); RING_PLACES],
             oldest: 0,
             waiting: 0,
             samples: 0,
@@ -33,7 +30,7 @@ impl Frontend {
     }
 
     // Starting (RULES 3.1).
-    #[tactic(auto, using(crate::proofs::Answers::refused_start, crate::proofs::Answers::accepted_start))]
+    #[tactic(auto, using(params::proofs::Accepted::judging), unfolding(crate::specs::Start::start_of))]
     pub fn new(sheet: &Sheet<'_>) -> Result<Frontend, ParamError>
         ensures { started result ≡ start_of sheet.now }
     {

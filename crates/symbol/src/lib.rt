@@ -4,8 +4,9 @@
 mod make;
 mod places;
 
-// The sums of one bank's row over the line; the filter gives three of these, for h, g and k.
-#[derive(Clone, Copy)]
+// The sums of one bank's row over the line; the filter gives three of these, for h, g and k. A type of its own beside Output and the state's Pair: contracts
+// see all three widths as integers, so of one generic type the definitions could take a sum for an output or a sample.
+#[derive(Clone, Copy, Default)]
 pub struct Sums {
     pub i: i64,
     pub q: i64,

@@ -23,7 +23,7 @@ fn clip(i: i64, q: i64) -> Fitted
             i: i.value,
             q: q.value,
         },
-        clips: i.changed as u8 + q.changed as u8,
+        clips: u8::from(i.changed) + u8::from(q.changed),
     }
 }
 
@@ -57,16 +57,17 @@ fn amplify(gain: u16, x: Output) -> Fitted
     ensures { result ≡ amplified gain x }
 {
     fit(
-        arith::round_product(x.i, gain as i32, 10),
-        arith::round_product(x.q, gain as i32, 10),
+        arith::round_product(x.i, i32::from(gain), 10),
+        arith::round_product(x.q, i32::from(gain), 10),
     )
 }
 
 // The bits of an output component below its sign. An amplified output has 16 bits, so more than these make no difference.
+// A function of its own, since the rules name that number.
 fn below_sign(bits: u8) -> u32
     ensures { result ≡ min (bits - 1) 15 }
 {
-    bits.saturating_sub(1).min(15) as u32
+    u32::from(bits.saturating_sub(1).min(15))
 }
 
 // A component at the width of the output.
@@ -75,8 +76,8 @@ fn quantise(p: Params, v: i16) -> i16
 {
     let end: i64 = 1 << below_sign(p.bits);
     arith::clamp(
-        arith::round_product(v, 1, p.q_shift as u32),
-        0 - end,
+        arith::round_product(v, 1, u32::from(p.q_shift)),
+        -end,
         end - 1,
     ) as i16
 }
@@ -86,7 +87,7 @@ impl Output {
     fn dot(self, other: Output) -> i64
         ensures { result ≡ self.i *ℤ other.i +ℤ self.q *ℤ other.q }
     {
-        (self.i as i64) * (other.i as i64) + (self.q as i64) * (other.q as i64)
+        i64::from(self.i) * i64::from(other.i) + i64::from(self.q) * i64::from(other.q)
     }
 }
 
@@ -94,7 +95,7 @@ fn timing_error(p: Params, z: Output, dz: Output) -> i32
     ensures { result ≡ timing_error p z dz }
 {
     arith::clamp(
-        arith::shift_right(z.dot(dz), p.ted_shift as u32),
+        arith::shift_right(z.dot(dz), u32::from(p.ted_shift)),
         -8388607,
         8388607,
     ) as i32
@@ -103,7 +104,7 @@ fn timing_error(p: Params, z: Output, dz: Output) -> i32
 fn agc_error(p: Params, zk: Output) -> i32
     ensures { result ≡ gain_error p zk }
 {
-    arith::wrap_i32(p.agc_target as i64 - (zk.dot(zk) >> 12))
+    arith::wrap_i32(i64::from(p.agc_target) - (zk.dot(zk) >> 12))
 }
 
 impl Symbol {

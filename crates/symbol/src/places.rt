@@ -12,29 +12,30 @@ impl Symbol {
     {
         [
             self.sample as i64,
-            self.phase as i64,
-            self.y.i as i64,
-            self.y.q as i64,
-            self.dy.i as i64,
-            self.dy.q as i64,
-            self.yk.i as i64,
-            self.yk.q as i64,
-            self.gain as i64,
-            self.period as i64,
-            self.z.i as i64,
-            self.z.q as i64,
-            self.dz.i as i64,
-            self.dz.q as i64,
-            self.zk.i as i64,
-            self.zk.q as i64,
-            self.q.i as i64,
-            self.q.q as i64,
-            self.e as i64,
-            self.err as i64,
+            i64::from(self.phase),
+            i64::from(self.y.i),
+            i64::from(self.y.q),
+            i64::from(self.dy.i),
+            i64::from(self.dy.q),
+            i64::from(self.yk.i),
+            i64::from(self.yk.q),
+            i64::from(self.gain),
+            i64::from(self.period),
+            i64::from(self.z.i),
+            i64::from(self.z.q),
+            i64::from(self.dz.i),
+            i64::from(self.dz.q),
+            i64::from(self.zk.i),
+            i64::from(self.zk.q),
+            i64::from(self.q.i),
+            i64::from(self.q.q),
+            i64::from(self.e),
+            i64::from(self.err),
         ]
     }
 
     // Writes the symbol behind `count` others and says how many there then are; an output without room for it, or a sample that no place holds, stays as it is.
+    // The output is lent whole, and the number of symbols in it is the caller's answer: a slice for each symbol would need both besides.
     #[tactic(auto, unfolding(crate::specs::Places::has_room, crate::specs::Places::put_of))]
     pub fn put(self, count: usize, out: &mut [i64]) -> usize
         ensures { record { count = result; output = out.new } ≡ put_of self count out.old }

@@ -25,7 +25,8 @@ line_inside bytes over line n e = go (ltb 1024 k) (ltb k (length bytes)) refl ov
     k : ℕ
     k = length (before 10 bytes)
 
-    go : (p q : Bool) → ltb k (length bytes) ≡ q → (r : Bool) → next_at (cond p TooLong (cond q (After k) Open)) (length bytes) r line ≡ Ok (Line n) → n < length bytes
+    go : (p q : Bool) → ltb k (length bytes) ≡ q → (r : Bool)
+        → next_at (cond p TooLong (cond q (After k) Open)) (length bytes) r line ≡ Ok (Line n) → n < length bytes
     go true q f r e = cc
     go false true f r e = let same : k ≡ n = cc in omega (arith, same, ltb-true k (length bytes) f)
     go false false f true e = at_end (length bytes) line n e

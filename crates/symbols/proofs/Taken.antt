@@ -8,7 +8,8 @@ use Rattle.fixed.specs.declared.Processed.{Processed}
 use Rattle.fixed.specs.Block.{Block, accepted, block_of, processed}
 use Rattle.fixed.proofs.Refused.{no-faults, ran}
 
-module _ (s : Sheet) (f after : Frontend) (values out written : List ℤ) (done : Processed) (told : processed (Ok done) after written ≡ block_of s f values out) where
+module _ (s : Sheet) (f after : Frontend) (values out written : List ℤ) (done : Processed)
+    (told : processed (Ok done) after written ≡ block_of s f values out) where
   accepts : (block_of s f values out).refused.number ≡ 0
   accepts = ap (λ (b : Block). b.refused.number) (sym told)
 

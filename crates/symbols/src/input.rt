@@ -10,7 +10,8 @@ use std::io::{Read, Stderr, Stdin};
 const READS: u32 = 1026;
 
 // Where the bytes come from and where a failure is told, what the buffer holds and is not used yet, from `at` to before `end`, whether the input has ended
-// behind it, and the number of the line that comes next.
+// behind it, and the number of the line that comes next. The library's BufReader takes its buffer from an allocator, and the program uses none. With the end
+// goes no value: bytes may still be there.
 #[derive(Drop)]
 pub(crate) struct Input {
     stdin: Stdin,
@@ -57,9 +58,9 @@ impl Input {
         }
     }
 
-    fn refused(&self, e: InputError) -> Stop {
+    fn refused(&self, number: u32) -> Stop {
         Stop::Refused {
-            number: e.number(),
+            number,
             line: self.line,
         }
     }
@@ -73,22 +74,18 @@ impl Input {
                 Ok(Next::Line(n)) => return Ok(n),
                 Ok(Next::End) => return Err(Stop::End),
                 Ok(Next::More) => self.read_on()?,
-                Err(e) => return Err(self.refused(e)),
+                Err(e) => return Err(self.refused(e.number())),
             }
         }
-        Err(self.refused(InputError::Malformed))
+        Err(self.refused(InputError::Malformed.number()))
     }
 
     // Takes the next line as fields of these types, and puts their values at the start of `values`.
     pub(crate) fn take(&mut self, kinds: &[Kind], values: &mut [i64]) -> Result<(), Stop> {
         let length = self.next_length()?;
         let end = self.at + length;
-        if let Err(e) = text::read_line(&self.bytes[self.at..end], kinds, values) {
-            return Err(Stop::Refused {
-                number: e.number(),
-                line: self.line,
-            });
-        }
+        let bytes = &self.bytes[self.at..end];
+        text::read_line(bytes, kinds, values).map_err(|e| self.refused(e.number()))?;
         self.at = end + 1;
         self.line = self.line.wrapping_add(1);
         Ok(())

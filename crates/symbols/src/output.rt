@@ -56,7 +56,7 @@ impl Output {
         Ok(())
     }
 
-    // Prints the end line.
+    // Prints the end line. This and the next are two calls each: a function for both would be told which of the lines it prints, and have to look at that.
     pub(crate) fn put_end(&mut self, samples: u64, symbols: u64, t: i64) -> Result<(), Stop> {
         self.make_room()?;
         self.page.put_end(samples, symbols, t);

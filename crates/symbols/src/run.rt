@@ -7,7 +7,7 @@ use crate::sheet::Head;
 use crate::stop::Stop;
 use kinds::Kind;
 use params::Sheet;
-use state::Frontend;
+use state::{Frontend, FrontendError};
 
 const PAIR: [Kind; 2] = [Kind::I16, Kind::I16];
 
@@ -38,7 +38,8 @@ fn read_block(input: &mut Input, values: &mut [i16]) -> Block
     }
 }
 
-// Prints the symbols of the pairs that a call takes: as many as it has places for. Says how many values these were.
+// Prints the symbols of the pairs that a call takes: as many as it has places for. Says how many values these were. A struct of the
+// other four parameters would be made at one place, and taken apart again here.
 fn put_some(
     state: &mut Frontend,
     sheet: &Sheet<'_>,
@@ -53,7 +54,8 @@ fn put_some(
     Ok(2 * done.taken)
 }
 
-// Prints the symbols of these pairs. A call may take some of them, so that the next one goes on behind these.
+// Prints the symbols of these pairs. A call may take some of them, so that the next one goes on behind these: how many it takes is known behind it, and no
+// range has these steps. Its parameters are put_some's.
 fn put_block(
     state: &mut Frontend,
     sheet: &Sheet<'_>,
@@ -73,7 +75,7 @@ fn put_block(
 pub(crate) fn run(input: &mut Input, output: &mut Output) -> Result<(), Stop> {
     let head = Head::read(input)?;
     let sheet = head.sheet();
-    let mut state = Frontend::new(&sheet)?;
+    let mut state = Frontend::new(&sheet).map_err(FrontendError::from)?;
     // Places for half of the pairs, so that no long input is printed right unless each call goes on from what the one before it took.
     let mut values = [0i16; 4096];
     let mut places = [0i64; 20480];

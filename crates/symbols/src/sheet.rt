@@ -20,16 +20,13 @@ pub(crate) struct Head {
 fn read_params(input: &mut Input) -> Result<Params, Stop> {
     let mut values = [0i64; 18];
     input.take(&places::sheet_kinds(), &mut values)?;
-    match places::read_sheet(&values) {
-        Err(e) => Err(Stop::Refused {
-            number: e.number(),
-            line: 1,
-        }),
-        Ok(params) if !params::is_good_taps(params.taps) => Err(Stop::Refused {
+    match places::read_sheet(&values).map_err(|e| e.number()) {
+        Ok(params) if params::is_good_taps(params.taps) => Ok(params),
+        Ok(_) => Err(Stop::Refused {
             number: ParamError::Taps.number(),
             line: 1,
         }),
-        Ok(params) => Ok(params),
+        Err(number) => Err(Stop::Refused { number, line: 1 }),
     }
 }
 

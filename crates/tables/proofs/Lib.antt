@@ -1,3 +1,2 @@
--- The rule of the wheel, and what turns one computed test into a fact at every place.
-pub mod Computed
+-- The rule of the wheel.
 pub mod Wheel

@@ -1,16 +1,19 @@
--- The wheel keeps the cosine's rule: one test, computed at each of the 1,024 steps, covers what the rule says there.
+-- The wheel keeps the cosine's rule: one test, computed at each of the 1,024 steps, decides what the rule says there.
 -- The rule at any other index is the rule at that index modulo 1,024.
-use Prim.Native.Nat.{ℕ, ◌+◌, ◌-◌, ◌%◌, ◌≤◌, ◌<◌}
+use Prim.Native.Nat.{ℕ, zero, suc, ◌+◌, ◌-◌, ◌%◌, ◌≤◌}
 use mathlib.Core.Path.{◌≡◌, refl, ap, ◌∙◌}
-use mathlib.Core.Bool.{Bool, ◌&&◌, ◌||◌}
-use mathlib.Core.Logic.{⊎_elim}
+use mathlib.Core.Bool.{Bool, true, ◌&&◌, ◌||◌}
+use mathlib.Core.Logic.{◌⊎◌, ⊎_elim}
 use native.Mathlib.Omega.{arith}
-use lib.Dec.{T, leb, leb→le}
-use lib.IntN.{pos, neg_ℤ, nat_abs, ◌+ℤ◌, ◌-ℤ◌, ◌*ℤ◌}
+use lib.Dec.{leb}
+use Rattle.std.proofs.lemmas.Int.{ints}
+use borrow.Author.Tests.{leb-true, le-leb}
+use lib.IntN.{ℤ, pos, neg_ℤ, nat_abs, ◌+ℤ◌, ◌-ℤ◌, ◌*ℤ◌}
 use lib.Signed.{le_z, ◌≤ℤ◌}
-use mir.Facts.{and_yes, or_yes}
+use Rattle.std.specs.Bool.{Decides}
+use Rattle.std.specs.Ordering.{int_eq}
+use Rattle.std.proofs.lemmas.Bool.Decides.{Decides-and, Decides-or, Decides-int_eq, Decides-below_and}
 use Rattle.tables.specs.Wheel.{quarter, wheel, CosineRule}
-use Rattle.tables.proofs.Computed.{eq_z, eq_z→eq, below, below_at}
 
 -- indices that differ by whole turns
 same_step : (a b : ℕ) → a % 1024 ≡ b % 1024 → wheel a ≡ wheel b
@@ -20,56 +23,55 @@ same_step a b e = rw e
 pub wheel-mod : (k : ℕ) → wheel (k % 1024) ≡ wheel k
 wheel-mod k = same_step (k % 1024) k (omega arith)
 
--- ---- the test at one step, and what it says there
+-- ---- the test at one step, and what it decides there
 
 abbrev off : ℕ → ℕ
 off k = nat_abs (wheel k *ℤ wheel k +ℤ wheel (k + 768) *ℤ wheel (k + 768) -ℤ pos 1073676289)
 
 abbrev test : ℕ → Bool
 test k =
-    eq_z (wheel (k + 512)) (neg_ℤ (wheel k)) && (eq_z (wheel (1024 - k)) (wheel k)
+    int_eq (wheel (k + 512)) (neg_ℤ (wheel k)) && (int_eq (wheel (1024 - k)) (wheel k)
     && ((leb 512 k || le_z (wheel (k + 1)) (wheel k)) && leb (off k) 46341))
 
-record At (k : ℕ) : Type 0 where
-  half-turn : wheel (k + 512) ≡ neg_ℤ (wheel k)
-  mirrored : wheel (1024 - k) ≡ wheel k
-  falling : k < 512 → wheel (k + 1) ≤ℤ wheel k
-  circle : off k ≤ 46341
+abbrev At : ℕ → Type 0
+At k =
+    (wheel (k + 512) ≡ neg_ℤ (wheel k)) × ((wheel (1024 - k) ≡ wheel k)
+    × (((512 ≤ k) ⊎ (wheel (k + 1) ≤ℤ wheel k)) × (off k ≤ 46341)))
 
--- a choice of two, of which the first does not hold
-second : (a b : Bool) → T (a || b) → (T a → ⊥) → T b
-second a b t f = ⊎_elim (λ x. absurd (f x)) (λ x. x) (or_yes a b t)
+decides-leb : (a b : ℕ) → Decides (leb a b) (a ≤ b)
+decides-leb a b = (leb-true a b, le-leb a b)
 
-tested : (k : ℕ) → T (test k) → At k
-tested k t =
-    let h = and_yes (eq_z (wheel (k + 512)) (neg_ℤ (wheel k))) _ t in
-    let m = and_yes (eq_z (wheel (1024 - k)) (wheel k)) _ h.1 in
-    let f = and_yes (leb 512 k || le_z (wheel (k + 1)) (wheel k)) (leb (off k) 46341) m.1 in
-    record {
-      half-turn = eq_z→eq (wheel (k + 512)) (neg_ℤ (wheel k)) h.0;
-      mirrored = eq_z→eq (wheel (1024 - k)) (wheel k) m.0;
-      falling = λ l. record { le = second (leb 512 k) (le_z (wheel (k + 1)) (wheel k)) f.0 (λ b. omega (arith, leb→le 512 k b)) };
-      circle = leb→le (off k) 46341 f.1;
-    }
+decides-le_z : (a b : ℤ) → Decides (le_z a b) (a ≤ℤ b)
+decides-le_z a b = (λ e. record { le = rw e tt }, λ h. grind (arith, ints))
 
--- the test, computed
-passed : T (below test 1024)
+decided : (k : ℕ) → Decides (test k) (At k)
+decided k =
+    Decides-and _ _ (Decides-int_eq _ _)
+    (Decides-and _ _ (Decides-int_eq _ _)
+    (Decides-and _ _ (Decides-or _ _ (decides-leb 512 k) (decides-le_z _ _)) (decides-leb (off k) 46341)))
+
+-- the test, computed at every step
+abbrev tests : ℕ → Bool
+tests zero = true
+tests (suc n) = test n && tests n
+
+passed : tests 1024 ≡ true
 unfolding wheel quarter
-passed = tt
+passed = refl
 
 at : (k : ℕ) → At (k % 1024)
-at k = tested (k % 1024) (below_at test 1024 passed (k % 1024) (omega arith))
+at k = (Decides-below_and test At tests decided refl (λ _. refl) 1024).0 passed (k % 1024) (omega arith)
 
 -- ---- the rule, at every index
 
-pub cosine-rule : CosineRule wheel
+pub cosine_rule : CosineRule wheel
 unfolding wheel quarter
-cosine-rule = record {
+cosine_rule = record {
   around = wheel-mod;
   at_zero = refl;
   at-quarter = refl;
-  half-turn = λ k. same_step (k + 512) (k % 1024 + 512) (omega arith) ∙ (at k).half-turn ∙ ap neg_ℤ (wheel-mod k);
-  mirrored = λ k j e. same_step j (1024 - k % 1024) (omega arith) ∙ (at k).mirrored ∙ wheel-mod k;
-  falling = λ k h. let e : k % 1024 ≡ k = omega arith in (rw e at (at k)).falling h;
-  circle = λ k. rw (wheel-mod k, same_step (k % 1024 + 768) (k + 768) (omega arith)) at (at k).circle;
+  half-turn = λ k. same_step (k + 512) (k % 1024 + 512) (omega arith) ∙ (at k).0 ∙ ap neg_ℤ (wheel-mod k);
+  mirrored = λ k j e. same_step j (1024 - k % 1024) (omega arith) ∙ (at k).1.0 ∙ wheel-mod k;
+  falling = λ k h. let e : k % 1024 ≡ k = omega arith in ⊎_elim (λ l. absurd (omega arith)) (λ l. l) (rw e at (at k)).1.1.0;
+  circle = λ k. rw (wheel-mod k, same_step (k % 1024 + 768) (k + 768) (omega arith)) at (at k).1.1.1;
 }

@@ -4,10 +4,10 @@
 #![tactic(auto)]
 
 ghost use Rattle.std.specs.Prelude.{◌≡◌};
-ghost use Rattle.tables.specs.Wheel.{wheel_table};
+ghost use Rattle.tables.specs.Wheel.{wheel, wheel_table, CosineRule};
 
 // round(32767 · cos(2πk / 1024)) at k = 0 .. 1023.
-const COS_TABLE: [i16; 1024] = [
+static COS_TABLE: [i16; 1024] = [
     32767, 32766, 32765, 32761, 32757, 32752, 32745, 32737, 32728, 32717, 32705, 32692, 32678,
     32663, 32646, 32628, 32609, 32589, 32567, 32545, 32521, 32495, 32469, 32441, 32412, 32382,
     32351, 32318, 32285, 32250, 32213, 32176, 32137, 32098, 32057, 32014, 31971, 31926, 31880,
@@ -90,10 +90,16 @@ const COS_TABLE: [i16; 1024] = [
     32728, 32737, 32745, 32752, 32757, 32761, 32765, 32766,
 ];
 
-// The whole wheel, by value: a caller that reads it often keeps it beside itself, since each mention of the constant makes it anew.
+// The whole wheel.
 #[tactic(auto, unfolding(crate::specs::Wheel::quarter, crate::specs::Wheel::wheel, crate::specs::Wheel::entries, crate::specs::Wheel::wheel_table))]
-pub fn cos_table() -> [i16; 1024]
-    ensures { result ≡ wheel_table }
+pub fn cos_table() -> &'static [i16; 1024]
+    ensures { result.now ≡ wheel_table }
 {
-    COS_TABLE
+    &COS_TABLE
 }
+
+// The wheel keeps the rule of a cosine. The function does nothing: its contract is the claim, and the check proves it.
+#[tactic(auto, using(crate::proofs::Wheel::cosine_rule))]
+pub fn cosine_rule()
+    ensures { CosineRule wheel }
+{}

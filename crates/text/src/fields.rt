@@ -15,7 +15,7 @@ fn with_digit(size: u64, digit: u8) -> u64
         .min(PAST)
 }
 
-// The number that has these digits: at least one, and no 0 before others.
+// The number that has these digits: at least one, and no 0 before others. By hand, since `parse` takes a plus sign and zeros in front, and is of text.
 #[tactic(auto, using(crate::proofs::Reading::digit_more), unfolding(crate::specs::Fields::numeral))]
 fn number(digits: &[u8]) -> Option<u64>
     ensures { result ≡ kept (numeral digits.now) }
@@ -33,7 +33,7 @@ fn number(digits: &[u8]) -> Option<u64>
     Some(size)
 }
 
-// The number with these digits, up to `up`.
+// The number with these digits, up to `up`. By `match` and not `?`, as the one below, where a 0 goes with None.
 #[tactic(auto, using(crate::proofs::Reading::plain_cut))]
 fn above_zero(digits: &[u8], up: u64) -> Result<i64, FieldError>
     requires { up < 2 ^ 63 }

@@ -35,9 +35,7 @@ pub fn read_line(line: &[u8], kinds: &[Kind], out: &mut [i64]) -> Result<(), Fie
     let mut fields = line.split(|b| *b == b',');
     let mut read = Ok(());
     for (n, kind) in kinds.iter().enumerate() {
-        let Some(text) = fields.next() else {
-            return Err(FieldError::Malformed);
-        };
+        let text = fields.next().ok_or(FieldError::Malformed)?;
         let value = match fields::field(text, *kind) {
             Err(FieldError::Malformed) => return Err(FieldError::Malformed),
             Err(FieldError::OutOfRange) => {

@@ -28,5 +28,5 @@ module _ (s : Sheet) (f : Frontend) (values out : List ℤ) where
       let sizes = (faultless s f (length values) (length out) (no-faults s f values out none)).sizes in
       rw (ran s f values out none) (takes-some f sizes (omega (arith, pairs-long values)))
 
-pub calls-advance : CallsAdvance
-calls-advance s f values out = record { given = given s f values out; some = some s f values out }
+pub calls_advance : CallsAdvance
+calls_advance s f values out = record { given = given s f values out; some = some s f values out }

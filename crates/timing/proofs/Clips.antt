@@ -2,5 +2,5 @@
 use Rattle.fixed.proofs.Clips.{block-clips}
 use Rattle.timing.specs.Timing.{ClipsFew}
 
-pub clips-few : ClipsFew
-clips-few s f values out = block-clips s f values out
+pub clips_few : ClipsFew
+clips_few s f values out = block-clips s f values out

@@ -73,8 +73,8 @@ module _ (t : Sheet) (f : Frontend) (clean : faults t ≡ []) where
   unfolding read_of
   other-reads other = rw (nine other) refl
 
-pub states-go-on : StatesGoOn
-states-go-on s ok cs t accepted =
+pub states_go_on : StatesGoOn
+states_go_on s ok cs t accepted =
     let f : Frontend = end_state s cs in
     let clean : faults t ≡ [] = judged-none t accepted in
     let g : Going f.params f = ends-going s ok cs in

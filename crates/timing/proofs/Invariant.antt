@@ -57,19 +57,23 @@ module _ (p₀ : Params) (P : ℕ → Params) where
   abbrev pub loop_at : List Params → List Symbol → Loop
   loop_at ps S = moved_by (fresh_loop p₀) (drop delay ps) (errors S)
 
+  -- the loop and the errors that wait behind the symbols S: only a symbol changes them
+  pub record Made (n : ℕ) (l : Loop) (ring : List Pending) (count first : ℕ) (S : List Symbol) : Type 0 where
+    pub symbols : n ≡ length S
+    pub loop : l ≡ loop_at (fields_of S) S
+    pub size : length ring ≡ ring_places
+    pub waiting : count ≡ min (length S) delay
+    pub oldest : first ≡ (length S - delay) % ring_places
+    pub queue : (j : ℕ) → j < length S → length S ≤ j + delay → get_or ring (j % ring_places) no_pending ≡ get_or (errors S) j no_pending
+
   -- under the fields p
   pub record Inv (p : Params) (f : Frontend) (S : List Symbol) : Type 0 where
     pub same-delay : p.delay ≡ delay
-    pub symbols : f.registers.symbols ≡ length S
     pub whole : f.registers.t_acc ≡ pos (time f)
     pub sum : f.samples * 16777216 + time f ≡ total S
     pub rest : time f < 67108863
     pub within : Within p (loop_of f.registers)
-    pub loop : loop_of f.registers ≡ loop_at (fields_of S) S
-    pub size : length f.pending ≡ ring_places
-    pub waiting : f.waiting ≡ min (length S) delay
-    pub oldest : f.oldest ≡ (length S - delay) % ring_places
-    pub queue : (j : ℕ) → j < length S → length S ≤ j + delay → get_or f.pending (j % ring_places) no_pending ≡ get_or (errors S) j no_pending
+    pub made : Made f.registers.symbols (loop_of f.registers) f.pending f.waiting f.oldest S
     pub few : length S ≤ f.samples
     pub head : f.head < p.taps
 
@@ -114,16 +118,18 @@ module _ (p₀ : Params) (P : ℕ → Params) where
   unfolding fresh total errors fields_of moved_by
   fresh-inv s a e = record {
     same-delay = ap (λ (p : Params). p.delay) e;
-    symbols = refl;
     whole = refl;
     sum = refl;
     rest = omega arith;
     within = rw (← e) (fresh-within s.params a.periods a.fields);
-    loop = rw (drop_of_length-le {A = Params} [] {i = delay} (omega arith));
-    size = refl;
-    waiting = omega arith;
-    oldest = omega arith;
-    queue = λ j h k. absurd (omega arith);
+    made = record {
+      symbols = refl;
+      loop = rw (drop_of_length-le {A = Params} [] {i = delay} (omega arith));
+      size = refl;
+      waiting = omega arith;
+      oldest = omega arith;
+      queue = λ j h k. absurd (omega arith);
+    };
     few = omega arith;
     head = omega (arith, a.lengths.good.least);
   }
@@ -135,16 +141,11 @@ module _ (p₀ : Params) (P : ℕ → Params) where
   unfolding retuned
   retuned-inv p q f S g e i = record {
     same-delay = e ∙ i.same-delay;
-    symbols = i.symbols;
     whole = i.whole;
     sum = i.sum;
     rest = i.rest;
     within = g.loop;
-    loop = i.loop;
-    size = i.size;
-    waiting = i.waiting;
-    oldest = i.oldest;
-    queue = i.queue;
+    made = i.made;
     few = i.few;
     head = g.head;
   }
@@ -160,16 +161,11 @@ module _ (p₀ : Params) (P : ℕ → Params) where
     unfolding joined
     joined-inv f S x i = record {
       same-delay = i.same-delay;
-      symbols = i.symbols;
       whole = i.whole;
       sum = i.sum;
       rest = i.rest;
       within = i.within;
-      loop = i.loop;
-      size = i.size;
-      waiting = i.waiting;
-      oldest = i.oldest;
-      queue = i.queue;
+      made = i.made;
       few = i.few;
       head = head-below p.taps f.head i.head;
     }
@@ -183,16 +179,11 @@ module _ (p₀ : Params) (P : ℕ → Params) where
         let n : nat_abs (f.registers.t_acc -ℤ one) ≡ time f - 16777216 = ap nat_abs t in
         record {
           same-delay = i.same-delay;
-          symbols = i.symbols;
           whole = t ∙ ap pos (sym n);
           sum = omega arith;
           rest = omega arith;
           within = i.within;
-          loop = i.loop;
-          size = i.size;
-          waiting = i.waiting;
-          oldest = i.oldest;
-          queue = i.queue;
+          made = i.made;
           few = omega arith;
           head = i.head;
         }
@@ -217,13 +208,14 @@ module _ (p₀ : Params) (P : ℕ → Params) where
         go : (b : Bool) → is_due p.delay f.waiting ≡ b → loop_of (due p f) ≡ loop_at (fields_of S ++ (p ∷ [])) S
         go true e =
             let c : f.waiting ≡ delay = eqb-true f.waiting p.delay e ∙ i.same-delay in
-            let q : oldest ≡ get_or (errors S) n no_pending = rw i.oldest (i.queue n (omega (arith, a.fields)) (omega arith)) in
+            let q : oldest ≡ get_or (errors S) n no_pending = rw i.made.oldest (i.made.queue n (omega (arith, a.fields)) (omega arith)) in
             let many : length before ≡ n = omega (arith, length-drop delay (fields_of S), length_fields S) in
-            let new : drop delay (fields_of S ++ (p ∷ [])) ≡ before ++ (p ∷ []) = drop-append-le delay (fields_of S) (p ∷ []) (omega (arith, length_fields S)) in
+            let new : drop delay (fields_of S ++ (p ∷ [])) ≡ before ++ (p ∷ []) =
+            drop-append-le delay (fields_of S) (p ∷ []) (omega (arith, length_fields S)) in
             rw (
               e,
               corrected-moves p f.registers oldest,
-              i.loop,
+              i.made.loop,
               q,
               new,
               moved_by-next (fresh_loop p₀) before p (errors S) (omega (arith, length-errors S)),
@@ -234,7 +226,7 @@ module _ (p₀ : Params) (P : ℕ → Params) where
             let none : drop delay (fields_of S) ≡ [] = drop_of_length-le (fields_of S) {i = delay} (omega (arith, length_fields S, i.same-delay)) in
             let still : drop delay (fields_of S ++ (p ∷ [])) ≡ [] = drop_of_length-le (fields_of S ++ (p ∷ [])) {i = delay}
             (omega (arith, length-append (fields_of S) (p ∷ []), length_fields S, i.same-delay)) in
-            rw (e, i.loop, none, still)
+            rw (e, i.made.loop, none, still)
 
     due-within : (f : Frontend) (S : List Symbol) → Inv p f S → Within p (loop_of (due p f))
     unfolding due found
@@ -285,7 +277,8 @@ module _ (p₀ : Params) (P : ℕ → Params) where
         → get_or (set l (length S % ring_places) w) (j % ring_places) no_pending ≡ get_or (errors S ++ (w ∷ [])) j no_pending
     queue-snoc l S w z q ring j u v = go (eqb j (length S)) refl
       where
-        go : (e : Bool) → eqb j (length S) ≡ e → get_or (set l (length S % ring_places) w) (j % ring_places) no_pending ≡ get_or (errors S ++ (w ∷ [])) j no_pending
+        go : (e : Bool) → eqb j (length S) ≡ e
+            → get_or (set l (length S % ring_places) w) (j % ring_places) no_pending ≡ get_or (errors S ++ (w ∷ [])) j no_pending
         go true e =
             rw (
               eqb-true j (length S) e,
@@ -322,6 +315,7 @@ module _ (p₀ : Params) (P : ℕ → Params) where
     with-symbol-inv : (f : Frontend) (S : List Symbol) → P f.samples ≡ p → Inv p f S → time f < 16777216 → Inv p (with_symbol s f) (S ++ (symbol_of s f ∷ []))
     unfolding with_symbol left errors
     with-symbol-inv f S e i h =
+        let m = i.made in
         let y : Symbol = symbol_of s f in
         let r : Registers = due p f in
         let len : length (S ++ (y ∷ [])) ≡ length S + 1 = length-append S (y ∷ []) in
@@ -332,19 +326,21 @@ module _ (p₀ : Params) (P : ℕ → Params) where
         let n : nat_abs (r.t_acc +ℤ pos r.period -ℤ one) ≡ time f + r.period - 16777216 = ap nat_abs t in
         record {
           same-delay = i.same-delay;
-          symbols = omega (arith, due-symbols p f);
           whole = t ∙ ap pos (sym n);
           sum = omega (arith, total-snoc f S, a.periods);
           rest = omega (arith, a.periods);
           within = w;
-          loop =
-              due-loop f S i ∙ sym (loop-snoc f S y ps many (omega (arith, i.same-delay, a.fields)))
-              ∙ ap (λ (qs : List Params). loop_at qs (S ++ (y ∷ []))) (sym (own-fields f S e));
-          size = length-set f.pending _ _ ∙ i.size;
-          waiting = rw len (waiting-next (length S) f.waiting i.same-delay i.waiting);
-          oldest = rw len (oldest-next (length S) f.waiting f.oldest i.same-delay i.waiting i.oldest);
-          queue = λ j u v. rw (slot f S i, errors-append S (y ∷ []))
-              (queue-snoc f.pending S (errors_of y) i.size i.queue (omega (arith, i.same-delay, a.fields)) j (omega arith) (omega arith));
+          made = record {
+            symbols = omega (arith, due-symbols p f);
+            loop =
+                due-loop f S i ∙ sym (loop-snoc f S y ps many (omega (arith, i.same-delay, a.fields)))
+                ∙ ap (λ (qs : List Params). loop_at qs (S ++ (y ∷ []))) (sym (own-fields f S e));
+            size = length-set f.pending _ _ ∙ m.size;
+            waiting = rw len (waiting-next (length S) f.waiting i.same-delay m.waiting);
+            oldest = rw len (oldest-next (length S) f.waiting f.oldest i.same-delay m.waiting m.oldest);
+            queue = λ j u v. rw (slot f S i, errors-append S (y ∷ []))
+                (queue-snoc f.pending S (errors_of y) m.size m.queue (omega (arith, i.same-delay, a.fields)) j (omega arith) (omega arith));
+          };
           few = omega arith;
           head = i.head;
         }

@@ -65,6 +65,6 @@ module _ (s : Sheet) (clean : faults s ≡ []) where
       (accepts f values out holds going whole (record { room = inr places; few = omega (arith, few) }))
       ∙ ap (λ (l : List Pair). xs ++ l) (rest ∙ pairs-rest values n) ∙ take-append-drop n (pairs_of values)
 
-pub offers-end : OffersEnd
-offers-end s ok cs t judges holds values outs whole few room enough =
+pub offers_end : OffersEnd
+offers_end s ok cs t judges holds values outs whole few room enough =
     all-taken t (judged-none t judges) (end_state s cs) values outs holds (ends-going s ok cs) whole few room enough

@@ -134,7 +134,7 @@ module _ (t : Sheet) (n : ℕ) where
   list-waits f [] none w = w
   list-waits f (c ∷ cs) none w = list-waits (state_by f c) cs (omega arith) (call-waits f c (omega arith) w)
 
-pub tickets-hold : TicketsHold
-tickets-hold f t cs asked none =
+pub tickets_hold : TicketsHold
+tickets_hold f t cs asked none =
     let w = list-waits t f.registers.symbols f cs none (record { asks = retunes t f (asked-none t f asked); symbols = refl }) in
     commits-none t (ask_of t f).ticket (state_after f cs) (no-ask-faults t (state_after f cs) w.asks) (ticket_is t f asked ∙ sym w.symbols)

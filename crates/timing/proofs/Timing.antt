@@ -487,8 +487,8 @@ module _ (s : Sheet) (ok : (start_of s).refused ≡ nothing) where
               ∙ (λ t. retuned (last_fields (start_state s).params (c t)) (end_by (λ n. in_force s (c t) n) (start_state s) (e t))) ∙ sym (ends ds kd);
         }
 
-pub timing-holds : TimingHolds
-timing-holds s ok = record {
+pub timing_holds : TimingHolds
+timing_holds s ok = record {
   whole = whole s ok;
   place = place s ok;
   apart = apart s ok;
@@ -497,8 +497,8 @@ timing-holds s ok = record {
   cuts = λ cs ds a e. cuts s ok cs ds a.0 a.1 e a.2;
 }
 
-pub alike-lists : AlikeAhead
-alike-lists s ok cs ds a = alike-ahead s ok cs ds a.0 a.1 a.2
+pub alike_lists : AlikeAhead
+alike_lists s ok cs ds a = alike-ahead s ok cs ds a.0 a.1 a.2
 
 -- ---- lists without commits
 
@@ -517,8 +517,8 @@ module _ (s : Sheet) where
       plain-none (n + length (taken_by f c)) (state_by f c) cs p.1
   plain-none n f (commit t ticket ∷ cs) p = absurd p
 
-pub without-commits : WithoutCommits
-without-commits s cs ds p q = (
+pub without_commits : WithoutCommits
+without_commits s cs ds p q = (
   plain-keeps s (start_state s) cs p,
   plain-keeps s (start_state s) ds q,
   plain-none s 0 (start_state s) cs p ∙ sym (plain-none s 0 (start_state s) ds q),

@@ -8,7 +8,7 @@ use native.Mathlib.Omega.{arith}
 use lib.IntN.{ℤ, pos, nat_abs, ◌+ℤ◌, ◌*ℤ◌}
 use lib.Signed.{quot_z, rem_z}
 use mir.Syntax.{w32, w64}
-use mir.Val.{Fits, SFits, to_z}
+use mir.Val.{Fits, SFits}
 use mir.Facts.{to_z-of_z}
 use Rattle.arith.specs.Arith.{nearest_away}
 use Rattle.arith.proofs.Bits.{whole}
@@ -30,9 +30,9 @@ of_sizes s a d some small f =
     (simp (mul-signed 2 s (a % d), to_z-of_z (size_fits {w = w64} s (2 * (a % d)) rest))
     (simp (quot-signed s (2 * (a % d)) d, to_z-of_z (size_fits {w = w64} s (2 * (a % d) / d) more)) (add-signed s (a / d) (2 * (a % d) / d))))
 
-computed_is : (n : ℤ) (m : ℕ) → SFits w64 n → Fits w32 m → 0 < m → computed (in64 n) (to_z w64 m) ≡ signed (sign n) (nat_abs n / m + 2 * (nat_abs n % m) / m)
-computed_is n m f g some =
-    rw (to_z-of_z f, whole m g) (subst (λ (z : ℤ). computed z (pos m) ≡ signed (sign n) (nat_abs n / m + 2 * (nat_abs n % m) / m)) (sym (of_size n))
+computed_is : (n : ℤ) (m : ℕ) {d : ℤ} → d ≡ pos m → SFits w64 n → Fits w32 m → 0 < m → computed (in64 n) (in64 d) ≡ signed (sign n) (nat_abs n / m + 2 * (nat_abs n % m) / m)
+computed_is n m is f g some =
+    rw (to_z-of_z f, whole m is g) (subst (λ (z : ℤ). computed z (pos m) ≡ signed (sign n) (nat_abs n / m + 2 * (nat_abs n % m) / m)) (sym (of_size n))
     (of_sizes (sign n) (nat_abs n) m some (omega (arith, g.fits)) (subst (SFits w64) (of_size n) f)))
 
 sum_fits : (n : ℤ) (m : ℕ) → SFits w64 n → 0 < m → SFits w64 (signed (sign n) (nat_abs n / m + 2 * (nat_abs n % m) / m))
@@ -47,9 +47,9 @@ returns-then-m-eq0 c = rw c.if-m-eq0.true refl
 pub overflow_add-result : goal.overflow_add-result
 overflow_add-result c =
     let some : 0 < c.args.m = omega arith in
-    rw (computed_is c.args.n c.args.m c.ranges.n c.ranges.m some) (sum_fits c.args.n c.args.m c.ranges.n some)
+    rw (computed_is c.args.n c.args.m c.from-d.ensures c.ranges.n c.ranges.m some) (sum_fits c.args.n c.args.m c.ranges.n some)
 
 pub returns : goal.returns
 returns c =
     let some : 0 < c.args.m = omega arith in
-    rw (computed_is c.args.n c.args.m c.ranges.n c.ranges.m some) (to_z-of_z (sum_fits c.args.n c.args.m c.ranges.n some) ∙ nearest-signed c.args.n c.args.m some)
+    rw (computed_is c.args.n c.args.m c.from-d.ensures c.ranges.n c.ranges.m some) (to_z-of_z (sum_fits c.args.n c.args.m c.ranges.n some) ∙ nearest-signed c.args.n c.args.m some)

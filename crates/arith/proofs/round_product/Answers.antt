@@ -47,7 +47,7 @@ pub overflow_add-result : goal.overflow_add-result
 overflow_add-result c =
     let f = c.ranges.a in
     let g = c.ranges.b in
-    simp (widened w64 tt f, widened w64 tt g, to_z-of_z (product-fits f g), half_is c.args.s c.if-s-gt62.false) (sum_fits f g c.args.s c.if-s-gt62.false)
+    simp (c.from.ensures, c.from-2.ensures, widened w64 tt f, widened w64 tt g, to_z-of_z (product-fits f g), half_is c.args.s c.if-s-gt62.false) (sum_fits f g c.args.s c.if-s-gt62.false)
 
 pub returns : goal.returns
 returns c =
@@ -55,5 +55,5 @@ returns c =
     let g = c.ranges.b in
     let s = c.args.s in
     let sum = sum_fits f g s c.if-s-gt62.false in
-    simp (widened w64 tt f, widened w64 tt g, to_z-of_z (product-fits f g), half_is s c.if-s-gt62.false)
+    simp (c.from.ensures, c.from-2.ensures, widened w64 tt f, widened w64 tt g, to_z-of_z (product-fits f g), half_is s c.if-s-gt62.false)
     (simp (to_z-of_z sum, to_z-of_z (shr-fits (2 ^ s) sum)) (round-added (c.args.a *ℤ c.args.b) s))

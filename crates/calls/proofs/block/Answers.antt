@@ -1,12 +1,25 @@
 -- `block` meets its contract: what the block answers of the state that was read is answered, where there are places for it. A state that a block leaves fits
 -- the slices that it was read from, and its three counts are signed numbers.
-use Rattle.std.proofs.Common.{rules, arith, ◌≡◌, ◌∙◌, sym, ap, ◌∷◌, pos, drop, w64, to_z}
+use Rattle.std.proofs.Common.{arith, ◌≡◌, ◌∙◌, ap, pos, w64, to_z}
+use mir.Facts.{to_z_pos}
+use Rattle.kinds.specs.Answer.{answer_number}
+use Rattle.params.specs.Refusal.{nothing}
 use Rattle.params.specs.Judge.{sheet_of}
-use Rattle.fixed.specs.Block.{block_of}
-use Rattle.places.specs.States.{slices, StateAnswer}
-use Rattle.calls.proofs.Answers.{block_stopped, block_made, block_written, block_counts, three_written}
-use Rattle.calls.proofs.Numbers.{places-numbered}
+use Rattle.fixed.specs.Block.{Block, block_of}
+use Rattle.places.specs.Refusal.{places_refusal}
+use Rattle.places.specs.States.{slices, read_state, numbers_of, StateAnswer}
+use Rattle.calls.specs.Calls.{sheet_at}
+use Rattle.calls.proofs.Answers.{block_refused, block_short, block_stopped, block_made, block_written}
+use Rattle.calls.proofs.Fitting.{taken_small, count_few, clips_few}
+use Rattle.calls.proofs.Numbers.{numbered}
+use Rattle.calls.proofs.block.Goals.{After-errors-1}
 use Rattle.calls.proofs.block.Goals as goal
+
+pub returns-in_err-check_block : goal.returns-in_err-check_block
+returns-in_err-check_block c = grind (arith, block_refused)
+
+pub returns-then-answer-lt4 : goal.returns-then-answer-lt4
+returns-then-answer-lt4 c = grind (arith, block_short)
 
 pub returns-in_err-done : goal.returns-in_err-done
 returns-in_err-done c =
@@ -15,46 +28,43 @@ returns-in_err-done c =
     let stopped = block_stopped _ _ _ _ (slices a.state.now a.line.now a.errors.now) _ _ a.answer.now c.in_ok-params.ensures.refused _ _ _ told in
     grind (arith, stopped)
 
+-- a block that is not refused, of the sheet and of the state that were read
+told : (c : After-errors-1) → let a = c.args in let done = c.in_ok-done.done in
+    ◌≡◌ {A = Block}
+    (record { refused = nothing; state = c.process.new.f; taken = done.taken; count = done.count; clips = done.clips; output = c.process.new.out })
+    (block_of (sheet_at a.sheet.now a.h.now a.g.now a.k.now) (read_state (slices a.state.now a.line.now a.errors.now)) a.values.now a.out.now)
+told c =
+    let a = c.args in
+    c.in_ok-done.ensures ∙ (λ i. block_of (sheet_of (c.in_ok-params.ensures.read i) a.h.now a.g.now a.k.now) (c.read-f.ensures i) a.values.now a.out.now)
+
+-- its state is written
+left : (c : After-errors-1) → let w = c.write_state in
+    ◌≡◌ {A = StateAnswer} (record { number = answer_number places_refusal w.result; state = slices w.new.places w.new.line w.new.errors })
+    (record { number = 0; state = numbers_of c.process.new.f })
+left c =
+    let a = c.args in
+    c.write_state.ensures ∙ block_written _ _ _ _ (slices a.state.now a.line.now a.errors.now) _ _ _ _ _ _ _ (told c)
+
 pub returns-in_err-write_state : goal.returns-in_err-write_state
 returns-in_err-write_state c =
-    let a = c.args in
-    let told = c.in_ok-done.ensures ∙ (λ i. block_of (sheet_of (c.in_ok-params.ensures.read i) a.h.now a.g.now a.k.now) (c.read-f.ensures i) a.values.now a.out.now) in
-    let written = block_written _ _ _ _ (slices a.state.now a.line.now a.errors.now) _ _ _ _ _ _ _ told in
-    absurd (omega (arith, places-numbered c.in_err-write_state.field-0.0, ap (λ (x : StateAnswer). x.number) (c.in_err-write_state.ensures ∙ written)))
-
-pub overflow_cast-answer : goal.overflow_cast-answer
-overflow_cast-answer c =
-    let a = c.args in
-    let told = c.in_ok-done.ensures ∙ (λ i. block_of (sheet_of (c.in_ok-params.ensures.read i) a.h.now a.g.now a.k.now) (c.read-f.ensures i) a.values.now a.out.now) in
-    let counts = block_counts _ _ _ _ (slices a.state.now a.line.now a.errors.now) _ _ _ _ _ _ _ told in
-    search rules
-
-pub overflow_cast-answer-2 : goal.overflow_cast-answer-2
-overflow_cast-answer-2 c =
-    let a = c.args in
-    let told = c.in_ok-done.ensures ∙ (λ i. block_of (sheet_of (c.in_ok-params.ensures.read i) a.h.now a.g.now a.k.now) (c.read-f.ensures i) a.values.now a.out.now) in
-    let counts = block_counts _ _ _ _ (slices a.state.now a.line.now a.errors.now) _ _ _ _ _ _ _ told in
-    search rules
-
-pub overflow_cast-answer-3 : goal.overflow_cast-answer-3
-overflow_cast-answer-3 c =
-    let a = c.args in
-    let told = c.in_ok-done.ensures ∙ (λ i. block_of (sheet_of (c.in_ok-params.ensures.read i) a.h.now a.g.now a.k.now) (c.read-f.ensures i) a.values.now a.out.now) in
-    let counts = block_counts _ _ _ _ (slices a.state.now a.line.now a.errors.now) _ _ _ _ _ _ _ told in
-    search rules
+    let written = left (goal.at.returns-in_err-write_state c).After-errors-1 in
+    grind (arith, numbered, written)
 
 pub returns : goal.returns
 returns c =
     let a = c.args in
-    let told = c.in_ok-done.ensures ∙ (λ i. block_of (sheet_of (c.in_ok-params.ensures.read i) a.h.now a.g.now a.k.now) (c.read-f.ensures i) a.values.now a.out.now) in
+    let done = c.in_ok-done.done in
+    let s = sheet_at a.sheet.now a.h.now a.g.now a.k.now in
     let lent = slices a.state.now a.line.now a.errors.now in
-    let long = c.if-answer-lt4.false in
-    let made = block_made _ _ _ _ lent _ _ a.answer.now c.in_ok-params.ensures.refused _ _ _ _ _ told long in
-    let written = block_written _ _ _ _ lent _ _ _ _ _ _ _ told in
-    let counts = block_counts _ _ _ _ lent _ _ _ _ _ _ _ told in
-    let count : to_z w64 c.in_ok-done.done.count ≡ pos c.in_ok-done.done.count = search rules in
-    let taken : to_z w64 c.in_ok-done.done.taken ≡ pos c.in_ok-done.done.taken = search rules in
-    let clips : to_z w64 c.in_ok-done.done.clips ≡ pos c.in_ok-done.done.clips = search rules in
-    let places = three_written (pos c.in_ok-done.done.count) (pos c.in_ok-done.done.taken) (pos c.in_ok-done.done.clips) a.answer.now (omega arith) in
-    let left = ap (λ (x : StateAnswer). x.state) (c.in_ok-write_state.ensures ∙ written) in
-    rw (count, taken, clips, places) (λ i. record { number = 0; state = left i; output = c.process.new.out; answer = pos c.in_ok-done.done.count ∷ pos c.in_ok-done.done.taken ∷ pos c.in_ok-done.done.clips ∷ drop 3 a.answer.now }) ∙ sym made
+    let f = read_state lent in
+    let block = told (goal.at.returns c).After-errors-1 in
+    let written = left (goal.at.returns c).After-errors-1 in
+    let made = block_made _ _ _ _ lent _ _ a.answer.now c.in_ok-params.ensures.refused _ _ _ _ _ block c.if-answer-lt4.false in
+    let taken : to_z w64 done.taken ≡ pos done.taken =
+    to_z_pos w64 (omega (arith, ap (λ (b : Block). b.taken) block, taken_small s f a.values.now a.out.now)) in
+    let count : to_z w64 done.count ≡ pos done.count =
+    to_z_pos w64 (omega (arith, ap (λ (b : Block). b.count) block, count_few s f a.values.now a.out.now)) in
+    let clips : to_z w64 done.clips ≡ pos done.clips =
+    to_z_pos w64 (omega (arith, ap (λ (b : Block). b.clips) block, clips_few s f a.values.now a.out.now)) in
+    let put = rw (count, taken, clips) at c.put.ensures in
+    grind (arith, made, written, put)

@@ -1,42 +1,48 @@
 -- `commit` meets its contract: slices that are a state have 18 places behind the first ten, so the sheet is written, and what is left are the places of the
 -- state with that sheet.
-use Rattle.std.proofs.Common.{rules, arith, ◌∙◌, sym, ap}
+use Rattle.std.proofs.Common.{rules, arith, ◌≡◌, ◌∙◌, sym, ap, ◌-◌, length}
+use borrow.Rule.Slice.PartMut.{put_mid}
+use Rattle.kinds.specs.Answer.{Answer, answer_number}
 use Rattle.params.specs.Judge.{sheet_of}
 use Rattle.retune.specs.Retune.{commit_of}
+use Rattle.places.specs.Refusal.{places_refusal}
 use Rattle.places.specs.States.{slices}
 use Rattle.places.proofs.Readable.{are_state}
-use Rattle.calls.specs.Calls.{state_number}
-use Rattle.calls.proofs.Numbers.{places-numbered}
+use Rattle.calls.specs.Calls.{state_number, commit_answer}
+use Rattle.calls.proofs.Numbers.{numbered}
 use Rattle.calls.proofs.NoState.{state-fits}
 use Rattle.calls.proofs.Committed.{commit_made}
+use Rattle.calls.proofs.commit.Goals.{After-commit, After-state-1}
 use Rattle.calls.proofs.commit.Goals as goal
 
-pub slice_bounds-write_sheet-count : goal.slice_bounds-write_sheet-count
-slice_bounds-write_sheet-count c =
+-- the slices are a state
+long : (c : After-commit) → length c.args.state.now ≡ 28
+long c =
     let a = c.args in
-    let state = are_state (slices a.state.now a.line.now a.errors.now) (state-fits _ _ (sym c.in_ok-f.ensures.refused)) in
-    omega (arith, state.places)
+    (are_state (slices a.state.now a.line.now a.errors.now) (state-fits _ _ (sym c.in_ok-f.ensures.refused))).places
+
+pub slice_bounds-write_sheet-count : goal.slice_bounds-write_sheet-count
+slice_bounds-write_sheet-count c = omega (arith, long (goal.at.slice_bounds-write_sheet-count c).After-commit)
 
 pub slice_bounds-write_sheet-start : goal.slice_bounds-write_sheet-start
-slice_bounds-write_sheet-start c =
+slice_bounds-write_sheet-start c = let places = long (goal.at.slice_bounds-write_sheet-start c).After-commit in search rules
+
+-- the sheet is written, and with it the state
+made : (c : After-state-1) → let a = c.args in let w = c.write_sheet in
+    (answer_number places_refusal w.result ≡ 0)
+    × (◌≡◌ {A = Answer} (record { number = 0; places = put_mid 10 (length a.state.now - 10) a.state.now w.new.sheet })
+    (commit_answer a.ticket a.sheet.now a.h.now a.g.now a.k.now (slices a.state.now a.line.now a.errors.now)))
+made c =
     let a = c.args in
-    let state = are_state (slices a.state.now a.line.now a.errors.now) (state-fits _ _ (sym c.in_ok-f.ensures.refused)) in
-    let long = state.places in
-    search rules
+    let lent = slices a.state.now a.line.now a.errors.now in
+    let passes = c.in_ok-f.ensures.refused ∙ ap (λ p. state_number (sheet_of p a.h.now a.g.now a.k.now) lent) c.in_ok-params.ensures.read in
+    let told = c.in_ok-commit.ensures ∙ (λ i. commit_of (sheet_of (c.in_ok-params.ensures.read i) a.h.now a.g.now a.k.now) a.ticket (c.in_ok-f.ensures.read i)) in
+    commit_made a.ticket _ _ _ _ lent _ _ c.in_ok-params.ensures.refused passes told c.write_sheet.ensures
 
 pub returns-in_err-write_sheet : goal.returns-in_err-write_sheet
 returns-in_err-write_sheet c =
-    let a = c.args in
-    let lent = slices a.state.now a.line.now a.errors.now in
-    let passes = c.in_ok-f.ensures.refused ∙ ap (λ p. state_number (sheet_of p a.h.now a.g.now a.k.now) lent) c.in_ok-params.ensures.read in
-    let told = c.in_ok-commit.ensures ∙ (λ i. commit_of (sheet_of (c.in_ok-params.ensures.read i) a.h.now a.g.now a.k.now) a.ticket (c.in_ok-f.ensures.read i)) in
-    let made = commit_made a.ticket _ _ _ _ lent _ _ c.in_ok-params.ensures.refused passes told c.in_err-write_sheet.ensures in
-    absurd (omega (arith, places-numbered c.in_err-write_sheet.field-0.0, made.0))
+    let none = (made (goal.at.returns-in_err-write_sheet c).After-state-1).0 in
+    grind (arith, numbered, none)
 
 pub returns : goal.returns
-returns c =
-    let a = c.args in
-    let lent = slices a.state.now a.line.now a.errors.now in
-    let passes = c.in_ok-f.ensures.refused ∙ ap (λ p. state_number (sheet_of p a.h.now a.g.now a.k.now) lent) c.in_ok-params.ensures.read in
-    let told = c.in_ok-commit.ensures ∙ (λ i. commit_of (sheet_of (c.in_ok-params.ensures.read i) a.h.now a.g.now a.k.now) a.ticket (c.in_ok-f.ensures.read i)) in
-    (commit_made a.ticket _ _ _ _ lent _ _ c.in_ok-params.ensures.refused passes told c.in_ok-write_sheet.ensures).1
+returns c = (made (goal.at.returns c).After-state-1).1

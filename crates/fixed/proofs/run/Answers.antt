@@ -9,10 +9,11 @@ use Rattle.state.specs.declared.Pair.{Pair}
 use Rattle.state.specs.declared.Frontend.{Frontend}
 use Rattle.state.specs.Check.{pairs_taken, good_state}
 use Rattle.state.proofs.Answers.{Faultless, faultless}
+use Rattle.fixed.specs.declared.sample.Rings.{Rings}
 use Rattle.fixed.specs.declared.sample.Running.{Running}
 use Rattle.fixed.specs.Sample.{after, emitted}
 use Rattle.fixed.specs.Block.{Block, pairs_of, flattened, accepted}
-use Rattle.fixed.specs.Inside.{state_of, Writes}
+use Rattle.fixed.specs.Inside.{running_of, rings_of, state_of, Writes}
 use Rattle.fixed.proofs.Turns.{pairs-cut}
 use Rattle.fixed.proofs.run.Goals as goal
 
@@ -34,27 +35,28 @@ module _ (values : List ℤ) (places : ℕ) {n : ℕ} (taken : n ≡ pairs_taken
 -- ---- the state, taken apart and put together
 
 module _ (s : Sheet) (f : Frontend) (values out : List ℤ) (ok : Faultless s f (length values) (length out)) {n : ℕ}
-    (taken : n ≡ pairs_taken (length values) (length out)) {x : Running} (of : state_of f.params x ≡ f) where
-  begins : state_of s.params x ≡ f
-  begins = ap (λ (p : Params). state_of p x) ok.holds ∙ of
+    (taken : n ≡ pairs_taken (length values) (length out)) {x : Running} {r : Rings} (numbers : x ≡ running_of f) (rings : r ≡ rings_of f) where
+  begins : state_of s.params x r ≡ f
+  begins = λ t. state_of (ok.holds t) (numbers t) (rings t)
 
-  good : good_state s.params (state_of s.params x) ≡ true
+  good : good_state s.params (state_of s.params x r) ≡ true
   good = ap (good_state s.params) begins ∙ ok.good
 
   room : (20 * (length (take (2 * n) values) / 2) ≤ length out) × (x.samples + length (take (2 * n) values) / 2 ≤ 9223372036854775807)
   room =
       let long = lent values (length out) taken in
-      let samples : x.samples ≡ f.samples = ap (λ (f : Frontend). f.samples) of in
+      let samples = ap (λ (x : Running). x.samples) numbers in
       (omega (arith, long, roomy values (length out) taken), omega (arith, long, samples, taken, ok.sizes.few))
 
-  answer : {y : Running} {new : Frontend} {count clips : ℕ} {o : List ℤ} → state_of s.params y ≡ after s (state_of s.params x) (pairs_of (take (2 * n) values))
-      → Writes (emitted s (state_of s.params x) (pairs_of (take (2 * n) values))) out o count clips → new ≡ state_of f.params y
+  answer : {y : Running} {z : Rings} {new : Frontend} {count clips : ℕ} {o : List ℤ}
+      → state_of s.params y z ≡ after s (state_of s.params x r) (pairs_of (take (2 * n) values))
+      → Writes (emitted s (state_of s.params x r) (pairs_of (take (2 * n) values))) out o count clips → new ≡ state_of f.params y z
       → ◌≡◌ {A = Block} (record { refused = nothing; state = new; taken = n; count = count; clips = clips; output = o }) (accepted s f values out)
   unfolding accepted
-  answer {y} {count = count} {clips = clips} {o = o} state writes put =
+  answer {y} {z} {count = count} {clips = clips} {o = o} state writes put =
       let xs : List Pair = take n (pairs_of values) in
       let cut = pairs-cut values n in
-      let ends = put ∙ ap (λ (p : Params). state_of p y) (sym ok.holds) ∙ state ∙ (λ t. after s (begins t) (cut t)) in
+      let ends = put ∙ ap (λ (p : Params). state_of p y z) (sym ok.holds) ∙ state ∙ (λ t. after s (begins t) (cut t)) in
       let w : Writes (emitted s f xs) out o count clips =
       subst (λ (ys : List Symbol). Writes ys out o count clips) (λ t. emitted s (begins t) (cut t)) writes in
       rw (sym taken)
@@ -79,23 +81,23 @@ slice_bounds-run-end c = let a = c.args in sym (lent a.values.now (length a.out.
 pub run-written-requires-clause-accepted : goal.run-written-requires-clause-accepted
 run-written-requires-clause-accepted c =
     let a = c.args in
-    (faultless a.sheet.now a.f.now (length a.values.now) (length a.out.now) c.requires).judged-so
+    rw c.own_sheet-sheet.ensures (faultless a.sheet.now a.f.now (length a.values.now) (length a.out.now) c.requires).judged-so
 
 pub run-written-requires-clause-good : goal.run-written-requires-clause-good
 run-written-requires-clause-good c =
     let a = c.args in
     let ok = faultless a.sheet.now a.f.now (length a.values.now) (length a.out.now) c.requires in
-    good a.sheet.now a.f.now a.values.now a.out.now ok c.pairs_taken-taken.ensures c.of-running.ensures
+    rw c.own_sheet-sheet.ensures (good a.sheet.now a.f.now a.values.now a.out.now ok c.pairs_taken-taken.ensures c.of-running.ensures c.of-rings.ensures)
 
 pub run-written-requires-clause-room : goal.run-written-requires-clause-room
 run-written-requires-clause-room c =
     let a = c.args in
     let ok = faultless a.sheet.now a.f.now (length a.values.now) (length a.out.now) c.requires in
-    room a.sheet.now a.f.now a.values.now a.out.now ok c.pairs_taken-taken.ensures c.of-running.ensures
+    room a.sheet.now a.f.now a.values.now a.out.now ok c.pairs_taken-taken.ensures c.of-running.ensures c.of-rings.ensures
 
 pub returns : goal.returns
 returns c =
     let a = c.args in
     let ok = faultless a.sheet.now a.f.now (length a.values.now) (length a.out.now) c.requires in
-    answer a.sheet.now a.f.now a.values.now a.out.now ok c.pairs_taken-taken.ensures c.of-running.ensures c.run-written.ensures.state
-    c.run-written.ensures.written c.put.ensures
+    let ran = rw c.own_sheet-sheet.ensures at c.run-written.ensures in
+    answer a.sheet.now a.f.now a.values.now a.out.now ok c.pairs_taken-taken.ensures c.of-running.ensures c.of-rings.ensures ran.state ran.written c.put.ensures

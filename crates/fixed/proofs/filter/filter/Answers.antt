@@ -1,13 +1,12 @@
 -- `fixed::filter::filter` meets its contract: the first run has the coefficients and places up to the end of the line, the second all others.
 -- What the two add up to are the sums over the line (TwoRuns).
-use Rattle.std.proofs.Common.{◌≡◌, ℕ, ◌+◌, ◌-◌, ◌<◌, ◌≤◌, List, [], ◌∷◌, length, ℤ, ap, ◌∙◌, arith}
+use Rattle.std.proofs.Common.{◌≡◌, ℕ, ◌+◌, ◌-◌, ◌<◌, ◌≤◌, List, [], ◌∷◌, length, ℤ, ap, ◌∙◌, arith, rules}
 use lib.IntN.{+ℤ_idl}
 use Rattle.symbol.specs.declared.Sums.{Sums}
 use Rattle.state.specs.declared.Pair.{Pair}
 use Rattle.fixed.specs.declared.filter.Summed.{Summed}
 use Rattle.fixed.specs.Filter.{sums_of}
 use Rattle.fixed.specs.TwoRuns.{first_run, second_run, together}
-use Rattle.fixed.specs.Raised.{Placed}
 use Rattle.fixed.specs.Rows.{ThreeRows}
 use Rattle.fixed.specs.Inside.{SummedUpto, RunAdds, no_sums, none_summed, unraised_sums}
 use Rattle.fixed.proofs.RowSums.{summed-wider}
@@ -54,26 +53,22 @@ pub unraised-requires : goal.unraised-requires
 unraised-requires c =
     let rows = c.args.rows.now in
     let line = c.args.line.now in
+    let head = c.args.head in
     let taps = ap (λ (r : ThreeRows). length r.k) c.rows.view_is in
-    let head = ap (λ (l : Placed). l.head) c.line.view_is in
-    let one : RunAdds rows line.pairs 0 line.head (length rows.k - line.head) c.nothing_summed.result c.line_run-first.result =
-    rw (taps, head) at c.line_run-first.ensures in
-    let two : RunAdds rows line.pairs (length rows.k - line.head) 0 line.head c.line_run-first.result c.line_run-both.result =
-    rw (taps, head) at c.line_run-both.ensures in
+    let one : RunAdds rows line 0 head (length rows.k - head) c.default.result c.line_run-first.result = rw taps at c.line_run-first.ensures in
+    let two : RunAdds rows line (length rows.k - head) 0 head c.line_run-first.result c.line_run-both.result = rw taps at c.line_run-both.ensures in
     let short : length rows.k ≤ 64 = omega (arith, taps, c.rows.invariant.row-k.short) in
-    (summed-wider short (both-upto rows line.pairs line.head c.requires c.nothing_summed.ensures one two)).output
+    (summed-wider short (both-upto rows line head c.requires (search rules) one two)).output
 
 pub returns : goal.returns
 returns c =
     let rows = c.args.rows.now in
     let line = c.args.line.now in
+    let head = c.args.head in
     let taps = ap (λ (r : ThreeRows). length r.k) c.rows.view_is in
-    let head = ap (λ (l : Placed). l.head) c.line.view_is in
-    let one : RunAdds rows line.pairs 0 line.head (length rows.k - line.head) c.nothing_summed.result c.line_run-first.result =
-    rw (taps, head) at c.line_run-first.ensures in
-    let two : RunAdds rows line.pairs (length rows.k - line.head) 0 line.head c.line_run-first.result c.line_run-both.result =
-    rw (taps, head) at c.line_run-both.ensures in
-    let h = total-h rows line.pairs line.head c.requires c.nothing_summed.ensures one two in
-    let g = total-g rows line.pairs line.head c.requires c.nothing_summed.ensures one two in
-    let k = c.unraised.ensures ∙ total-k rows line.pairs line.head c.requires c.nothing_summed.ensures one two in
+    let one : RunAdds rows line 0 head (length rows.k - head) c.default.result c.line_run-first.result = rw taps at c.line_run-first.ensures in
+    let two : RunAdds rows line (length rows.k - head) 0 head c.line_run-first.result c.line_run-both.result = rw taps at c.line_run-both.ensures in
+    let h = total-h rows line head c.requires (search rules) one two in
+    let g = total-g rows line head c.requires (search rules) one two in
+    let k = c.unraised.ensures ∙ total-k rows line head c.requires (search rules) one two in
     λ t. h t ∷ g t ∷ k t ∷ []

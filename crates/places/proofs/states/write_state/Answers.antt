@@ -8,7 +8,8 @@ pub copy_from_slice-requires : goal.copy_from_slice-requires
 copy_from_slice-requires c =
     let long = long-places (slices c.args.places.now c.args.line.now c.args.errors.now) (sym c.if-not-are_long.ensures) in
     let cut : length (take 10 c.args.places.now) ≡ 10 = omega (arith, length-take 10 c.args.places.now, long) in
-    cut ∙ sym (ap length c.in-Some.ensures.1)
+    let made = rw c.in_ok-first.ensures.ok_part at c.first_places.ensures in
+    cut ∙ sym (ap length made.1)
 
 pub slice_bounds-copy_from_slice-end-2 : goal.slice_bounds-copy_from_slice-end-2
 slice_bounds-copy_from_slice-end-2 c =

@@ -21,10 +21,10 @@ clamped c =
     let a = c.args in
     let by = 2 ^ a.p.agc_shift in
     let moved = shr_z a.err by in
-    let shifted : c.shift_right.result ≡ moved = simp (widened w64 tt c.ranges.err) at c.shift_right.ensures in
+    let shifted : c.shift_right.result ≡ moved = simp (c.from-2.ensures, c.from-3.ensures, widened w64 tt c.ranges.err) at c.shift_right.ensures in
     let most : nat_abs (pos a.acc +ℤ c.shift_right.result) < 2 ^ 63 =
     rw shifted (omega (arith, c.ranges.acc, fit-abs c.ranges.err, abs-add (pos a.acc) moved, abs-shr a.err by)) in
-    let sum = simp (whole a.acc c.ranges.acc, held w64 c.shift_right.result c.shift_right.type_inv) at c.clamp.ensures in
+    let sum = simp (whole a.acc c.from.ensures c.ranges.acc, held w64 c.shift_right.result c.shift_right.type_inv) at c.clamp.ensures in
     let told : c.clamp.result ≡ _ = simp (back w64 (pos a.acc +ℤ c.shift_right.result) most) at sum in
     simp (held w64 c.clamp.result c.clamp.type_inv) (simp shifted at told)
 

@@ -6,7 +6,7 @@ use native.Mathlib.Omega.{arith}
 use lib.IntN.{ℤ, pos, nat_abs, ◌+ℤ◌, ◌*ℤ◌}
 use lib.Signed.{shr_z}
 use mir.Syntax.{w16, w32, w64}
-use mir.Val.{Fits, SFits, to_z}
+use mir.Val.{Fits, SFits}
 use mir.Facts.{to_z-of_z}
 use Rattle.arith.specs.Arith.{round_shift, clamp_z}
 use Rattle.arith.proofs.Magnitude.{abs-add, abs-shr-pow}
@@ -36,9 +36,9 @@ module _ (c : goal.After-scaled) where
       omega (arith, nominal-fits.fits, fit-abs c.ranges.v, abs-add (pos c.args.p.period_nominal) (shr_z c.args.v 65536), abs-shr-pow c.args.v 16)
 
   -- what the code holds of both
-  base-is : in64 (to_z w64 c.args.p.period_nominal +ℤ in64 (shr_z (in64 c.args.v) 65536)) ≡ base
+  base-is : in64 (in64 c.from.result +ℤ in64 (shr_z (in64 c.args.v) 65536)) ≡ base
   base-is =
-      simp (whole c.args.p.period_nominal nominal-fits, to_z-of_z c.ranges.v, to_z-of_z (shr-fits 65536 c.ranges.v)) (back w64 base (omega (arith, base-abs)))
+      simp (whole c.args.p.period_nominal c.from.ensures nominal-fits, to_z-of_z c.ranges.v, to_z-of_z (shr-fits 65536 c.ranges.v)) (back w64 base (omega (arith, base-abs)))
 
   scaled-is : c.scaled.result ≡ moved
   scaled-is = simp (to_z-of_z kp-fits, to_z-of_z c.ranges.e) at c.scaled.ensures
@@ -62,8 +62,8 @@ clamped : (c : goal.After-clamp)
     ≡ clamp_z (pos p.period_nominal +ℤ shr_z c.args.v 65536 +ℤ round_shift (p.kp *ℤ c.args.e) p.kp_shift) (pos p.period_min) (pos p.period_max)
 clamped c =
     let a = (goal.at.returns c).After-scaled in
-    let low = whole c.args.p.period_min (min-fits c) in
-    let high = whole c.args.p.period_max (max-fits c) in
+    let low = whole c.args.p.period_min c.from-2.ensures (min-fits c) in
+    let high = whole c.args.p.period_max c.from-3.ensures (max-fits c) in
     let ends = simp (base-is a, held w64 c.scaled.result c.scaled.type_inv, low, high) at c.clamp.ensures in
     let told : c.clamp.result ≡ _ = simp (back w64 (base a +ℤ c.scaled.result) (sum-abs a)) at ends in
     simp (held w64 c.clamp.result c.clamp.type_inv) (simp (scaled-is a) at told)

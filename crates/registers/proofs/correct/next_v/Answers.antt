@@ -11,7 +11,7 @@ use Rattle.arith.specs.Arith.{round_shift}
 use Rattle.arith.proofs.Magnitude.{abs-add}
 use Rattle.arith.proofs.Bits.{sfit, back, held}
 use Rattle.registers.specs.Correct.{next_v}
-use Rattle.registers.proofs.Integrator.{scaled-abs, low_fits, end_is}
+use Rattle.registers.proofs.Integrator.{scaled-abs, low_fits, end_fits}
 use Rattle.registers.proofs.correct.next_v.Goals as goal
 use Rattle.registers.proofs.correct.next_v.Goals.{After-scaled}
 
@@ -36,6 +36,6 @@ unfolding next_v
 returns c =
     let f : SFits w32 c.args.p.integrator_max = record { sfits = search c depth 40 } in
     let a = (goal.at.returns c).After-scaled in
-    let ends = simp (end_is f, +ℤ_idl, to_z-of_z (low_fits f), to_z-of_z c.ranges.v, held w64 c.scaled.result c.scaled.type_inv) at c.clamp.ensures in
+    let ends = simp (c.integrator_end-end.ensures, to_z-of_z f, to_z-of_z (end_fits f), +ℤ_idl, to_z-of_z (low_fits f), to_z-of_z c.ranges.v, held w64 c.scaled.result c.scaled.type_inv) at c.clamp.ensures in
     let told : c.clamp.result ≡ _ = simp (back w64 (c.args.v +ℤ c.scaled.result) (sum-abs a)) at ends in
     held w64 c.clamp.result c.clamp.type_inv ∙ simp (scaled-is a) at told

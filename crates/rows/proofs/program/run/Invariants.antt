@@ -2,7 +2,7 @@ use Rattle.std.proofs.Common.{◌≡◌, ℕ, List}
 use Rattle.std.specs.List.{FoldsTo}
 use Rattle.std.specs.Io.KnownBytes.{Consumes}
 use Rattle.rows.specs.Rows.{read, start, none_counted}
-use Rattle.rows.specs.Program.{placed, after, rows_in, counted, Takes}
+use Rattle.rows.specs.Program.{after, rows_in, counted, Takes}
 use Rattle.rows.proofs.program.run.Given as goal
 
 abbrev pub invariant-loop : goal.invariant-loop
@@ -10,4 +10,4 @@ invariant-loop g l =
     (bytes : List ℕ)
     × Consumes (g.I.Read.remaining l.fn.input) (g.I.Read.remaining l.input) bytes
     × FoldsTo (Takes g.R.Replay.gives) (counted l.fn.replay none_counted) (rows_in (read start l.fn.row) bytes) (counted l.replay l.progress.tally)
-    × (placed (read l.progress.cursor l.row) ≡ placed (after (read start l.fn.row) bytes))
+    × (read l.progress.cursor l.row ≡ after (read start l.fn.row) bytes)

@@ -3,19 +3,27 @@ use mir.Syntax.{w16}
 use mir.Val.{SFits}
 use Rattle.arith.proofs.Widths.{sum_fits, sum_is}
 use Rattle.symbol.proofs.Output.dot.Goals as goal
+use Rattle.symbol.proofs.Output.dot.Goals.{After-from-4}
+
+module _ (c : After-from-4) where
+  i : SFits w16 c.args.self.i
+  i = record { sfits = search c depth 40 }
+
+  i' : SFits w16 c.args.other.i
+  i' = record { sfits = search c depth 40 }
+
+  q : SFits w16 c.args.self.q
+  q = record { sfits = search c depth 40 }
+
+  q' : SFits w16 c.args.other.q
+  q' = record { sfits = search c depth 40 }
 
 pub overflow_add-result : goal.overflow_add-result
 overflow_add-result c =
-    let i : SFits w16 c.args.self.i = record { sfits = search c depth 40 } in
-    let i' : SFits w16 c.args.other.i = record { sfits = search c depth 40 } in
-    let q : SFits w16 c.args.self.q = record { sfits = search c depth 40 } in
-    let q' : SFits w16 c.args.other.q = record { sfits = search c depth 40 } in
-    sum_fits i i' q q'
+    let s = (goal.at.overflow_add-result c).After-from-4 in
+    simp (c.from.ensures, c.from-2.ensures, c.from-3.ensures, c.from-4.ensures) (sum_fits (i s) (i' s) (q s) (q' s))
 
 pub returns : goal.returns
 returns c =
-    let i : SFits w16 c.args.self.i = record { sfits = search c depth 40 } in
-    let i' : SFits w16 c.args.other.i = record { sfits = search c depth 40 } in
-    let q : SFits w16 c.args.self.q = record { sfits = search c depth 40 } in
-    let q' : SFits w16 c.args.other.q = record { sfits = search c depth 40 } in
-    sum_is i i' q q'
+    let s = (goal.at.returns c).After-from-4 in
+    simp (c.from.ensures, c.from-2.ensures, c.from-3.ensures, c.from-4.ensures) (sum_is (i s) (i' s) (q s) (q' s))

@@ -22,6 +22,6 @@ returns c =
     let shifted : ℤ = shr_z c.dot.result 4096 in
     let most : nat_abs (pos c.args.p.agc_target -ℤ shifted) < 2 ^ 63 =
     omega (arith, target.fits, fit-abs power, abs-shr-pow c.dot.result 12, abs-minus (pos c.args.p.agc_target) shifted) in
-    let lack = simp (to_z-of_z power, to_z-of_z (shr-fits 4096 power), whole c.args.p.agc_target target) at c.wrap_i32.ensures in
+    let lack = simp (to_z-of_z power, to_z-of_z (shr-fits 4096 power), whole c.args.p.agc_target c.from.ensures target) at c.wrap_i32.ensures in
     let told : c.wrap_i32.result ≡ _ = simp (back w64 (pos c.args.p.agc_target -ℤ shifted) most) at lack in
     held w32 c.wrap_i32.result c.wrap_i32.type_inv ∙ told ∙ ap (λ (z : ℤ). wrap_i32 (pos c.args.p.agc_target -ℤ shr_z z 4096)) c.dot.ensures

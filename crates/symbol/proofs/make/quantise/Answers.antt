@@ -86,7 +86,7 @@ clamped c =
     let h : j ≤ 15 = omega (arith, c.below_sign.ensures) in
     let v : ℤ = c.args.v in
     let shift : ℕ = c.args.p.q_shift in
-    let whole : r.result ≡ round_shift (v *ℤ pos 1) shift = simp (to_z-of_z c.ranges.v, to_z_pos w32 {n = 1} (omega arith)) at r.ensures in
+    let whole : r.result ≡ round_shift (v *ℤ pos 1) shift = simp (c.from.ensures, to_z-of_z c.ranges.v, to_z_pos w32 {n = 1} (omega arith)) at r.ensures in
     let rounded : r.result ≡ round_shift v shift = whole ∙ ap (λ (z : ℤ). round_shift z shift) (*ℤ-one v) in
     let ends = simp (held w64 r.result r.type_inv, end_is j h, +ℤ_idl) at c.clamp.ensures in
     let told : c.clamp.result ≡ _ =

@@ -26,6 +26,6 @@ pub returns : goal.returns
 unfolding timing_error
 returns c =
     let r = c.shift_right in
-    let shifted = held w64 r.result r.type_inv ∙ r.ensures
+    let shifted = held w64 r.result r.type_inv ∙ (simp c.from.ensures at r.ensures)
     ∙ ap (λ (z : ℤ). shr_z z (2 ^ c.args.p.ted_shift)) (held w64 c.dot.result c.dot.type_inv ∙ c.dot.ensures) in
     narrowed tt (fits c) ∙ c.clamp.ensures ∙ ap (λ (z : ℤ). clamp_z z (negsuc 8388606) (pos 8388607)) shifted

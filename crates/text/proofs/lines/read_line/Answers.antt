@@ -1,5 +1,5 @@
 -- A field more takes the first of the fields that are left (Splitting); one of wrong form decides at once, and so does a line with another number of fields.
-use Rattle.std.proofs.Common.{◌≡◌, ◌∙◌, sym, ap, max, ◌≤◌, get_or, set, arith, rules, ℤ, Result, Ok, Err, to_z, of_z, w64}
+use Rattle.std.proofs.Common.{◌≡◌, ◌∙◌, sym, ap, max, ◌≤◌, get_or, set, arith, rules, ℤ, Result, Ok, Err, None, to_z, of_z, w64}
 use Rattle.std.proofs.Math.Seq.{set_out}
 use Rattle.std.proofs.lemmas.List.Sorted.{answers_always}
 use Rattle.kinds.specs.declared.Kind.TheVariants.{U8}
@@ -11,26 +11,28 @@ use Rattle.text.proofs.Splitting.{next_field, no_field, number_is, fault-le, lef
 use Rattle.text.proofs.lines.read_line.Goals.{in-Err-OutOfRange, in-Ok, then-n-out, else-n-out}
 use Rattle.text.proofs.lines.read_line.Goals as goal
 
-pub returns-in_default : goal.returns-in_default
-returns-in_default c =
+pub returns-in_err-text : goal.returns-in_err-text
+returns-in_err-text c =
     let l = c.loop-n in
-    left_short c.args.kinds.now c.args.line.now c.args.out.now l.out l.n (fault_of l.read) c.loop-n-test.true (fault-le l.read)
-    (rw (no_field _ l.fields c.next.new.self c.next.result c.next.ensures.steps c.in_default.is) at l.invariant.left)
+    let none : c.next.result ≡ None = grind arith in
+    let short = left_short c.args.kinds.now c.args.line.now c.args.out.now l.out l.n (fault_of l.read) c.loop-n-test.true (fault-le l.read)
+    (rw (no_field _ l.fields c.next.new.self c.next.result c.next.ensures.steps none) at l.invariant.left) in
+    grind (arith, short)
 
 pub returns-in-Err-Malformed : goal.returns-in-Err-Malformed
 returns-in-Err-Malformed c =
     let l = c.loop-n in
     let left =
-    rw (next_field _ l.fields c.next.new.self c.next.result c.next.ensures.steps c.in-Some.text c.in-Some.is (answers_always _ _ _ (λ f a r g h. search rules))) at l.invariant.left in
-    left_wrong c.args.kinds.now c.args.line.now c.args.out.now l.out l.n (fault_of l.read) c.loop-n-test.true c.in-Some.text.now _ left (fault-le l.read)
+    rw (next_field _ l.fields c.next.new.self c.next.result c.next.ensures.steps c.in_ok-text.text c.in_ok-text.ensures.ok_part (answers_always _ _ _ (λ f a r g h. search rules))) at l.invariant.left in
+    left_wrong c.args.kinds.now c.args.line.now c.args.out.now l.out l.n (fault_of l.read) c.loop-n-test.true c.in_ok-text.text.now _ left (fault-le l.read)
     (ap fault_of (sym c.field.ensures ∙ c.in-Err-Malformed.is ∙ ap Err c.in-Err-Malformed.field-0-is))
 
 pub loop-n-preserved : goal.loop-n-preserved
 loop-n-preserved c =
     let l = c.loop-n in
-    let F : Result ℤ FieldError = field_of (get_or c.args.kinds.now l.n U8) c.in-Some.text.now in
+    let F : Result ℤ FieldError = field_of (get_or c.args.kinds.now l.n U8) c.in_ok-text.text.now in
     let left =
-    rw (next_field _ l.fields c.next.new.self c.next.result c.next.ensures.steps c.in-Some.text c.in-Some.is (answers_always _ _ _ (λ f a r g h. search rules))) at l.invariant.left in
+    rw (next_field _ l.fields c.next.new.self c.next.result c.next.ensures.steps c.in_ok-text.text c.in_ok-text.ensures.ok_part (answers_always _ _ _ (λ f a r g h. search rules))) at l.invariant.left in
     let placed : c.if-n-out.out ≡ set l.out l.n c.match-field.value = elim c.if-n-out.branch [
       | then-n-out w ↦ w.out-is ∙ ap (λ (z : ℤ). set l.out l.n z) c.match-field.value-is
       | else-n-out w ↦ w.out-is ∙ sym (set_out l.out l.n c.match-field.value w.if-n-out.false)
@@ -51,7 +53,7 @@ loop-n-preserved c =
     record {
       same_length = search rules;
       no_wrong_form = omega (arith, read.1, read.2, l.invariant.no_wrong_form);
-      left = rw (placed, read.0, read.1) (left_step c.args.kinds.now c.args.line.now c.args.out.now l.out l.n (fault_of l.read) c.loop-n-test.true c.in-Some.text.now _ left (λ (e : fault_of F ≡ 2). omega (arith, read.2)));
+      left = rw (placed, read.0, read.1) (left_step c.args.kinds.now c.args.line.now c.args.out.now l.out l.n (fault_of l.read) c.loop-n-test.true c.in_ok-text.text.now _ left (λ (e : fault_of F ≡ 2). omega (arith, read.2)));
     }
 
 pub returns-in-None : goal.returns-in-None
@@ -60,9 +62,9 @@ returns-in-None c =
     rw (number_is l.read) (left_whole c.args.kinds.now c.args.line.now c.args.out.now l.out l.n (fault_of l.read) c.loop-n-test.false
     (rw (no_field _ l.fields c.next-2.new.self c.next-2.result c.next-2.ensures.steps c.in-None.is) at l.invariant.left))
 
-pub returns-in-Some-next : goal.returns-in-Some-next
-returns-in-Some-next c =
+pub returns-in-Some : goal.returns-in-Some
+returns-in-Some c =
     let l = c.loop-n in
     let left =
-    rw (next_field _ l.fields c.next-2.new.self c.next-2.result c.next-2.ensures.steps c.in-Some-next.field-0 c.in-Some-next.is (answers_always _ _ _ (λ f a r g h. search rules))) at l.invariant.left in
-    left_long c.args.kinds.now c.args.line.now c.args.out.now l.out l.n (fault_of l.read) c.loop-n-test.false (fault-le l.read) c.in-Some-next.field-0.now _ left
+    rw (next_field _ l.fields c.next-2.new.self c.next-2.result c.next-2.ensures.steps c.in-Some.field-0 c.in-Some.is (answers_always _ _ _ (λ f a r g h. search rules))) at l.invariant.left in
+    left_long c.args.kinds.now c.args.line.now c.args.out.now l.out l.n (fault_of l.read) c.loop-n-test.false (fault-le l.read) c.in-Some.field-0.now _ left

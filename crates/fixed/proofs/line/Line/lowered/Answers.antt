@@ -2,7 +2,7 @@
 use Rattle.std.proofs.Common.{◌≡◌, ℕ, ◌<◌, ℤ, sym, ap, ◌∙◌, arith, w32, w64, to_z, of_z}
 use Rattle.arith.proofs.Widths.{narrowed}
 use Rattle.arith.proofs.Filled.{filled_next}
-use Rattle.fixed.specs.Raised.{lowered, Placed}
+use Rattle.fixed.specs.Raised.{lowered}
 use Rattle.fixed.proofs.RowSums.{lowered-fits}
 use Rattle.fixed.proofs.Paired.{paired-line}
 use Rattle.fixed.proofs.line.Line.lowered.Goals as goal
@@ -23,4 +23,4 @@ returns c =
     let i = c.self.inside in
     let l = c.loop-n in
     let pairs = paired-line i.i i.q l.line c.self.told.0 c.self.told.1 (omega arith) (λ n h. l.invariant.first n (omega arith)) in
-    sym pairs ∙ ap (λ (x : Placed). x.pairs) c.self.view_is
+    sym pairs ∙ c.self.view_is

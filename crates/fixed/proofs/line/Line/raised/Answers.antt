@@ -24,7 +24,5 @@ invariant_of-result c =
 pub returns : goal.returns
 returns c =
     let l = c.loop-n in
-    let pairs =
     paired-line l.i l.q c.args.line.now l.invariant.0.long l.invariant.1.long c.told-line
-    (λ n h t. record { i = sym (l.invariant.0.stands n (omega arith)) t; q = sym (l.invariant.1.stands n (omega arith)) t }) in
-    λ t. record { pairs = pairs t; head = c.args.head }
+    (λ n h t. record { i = sym (l.invariant.0.stands n (omega arith)) t; q = sym (l.invariant.1.stands n (omega arith)) t })

@@ -8,6 +8,6 @@ use Rattle.fixed.proofs.sample.Running.go_on.Goals as goal
 
 pub returns : goal.returns
 unfolding without_symbol
-returns c =
+returns c p rings =
     let z = c.args.self.now.registers.t_acc in
-    simp (back w64 z (omega (arith, c.requires.ready.0)), back w64 (z -ℤ one) (omega (arith, c.requires.ready.0, abs-minus z one)))
+    simp (back w64 z (omega (arith, c.requires.0)), back w64 (z -ℤ one) (omega (arith, c.requires.0, abs-minus z one)))

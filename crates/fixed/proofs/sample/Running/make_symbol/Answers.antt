@@ -13,7 +13,6 @@ use Rattle.symbol.specs.declared.Symbol.{Symbol}
 use Rattle.symbol.specs.Make.{symbol_from}
 use Rattle.state.specs.declared.Frontend.{Frontend}
 use Rattle.state.specs.Start.{ring_places}
-use Rattle.fixed.specs.declared.queue.Queue.{Queue}
 use Rattle.fixed.specs.Filter.{filtered}
 use Rattle.fixed.specs.Sample.{due, falls, symbol_of, with_symbol}
 use Rattle.fixed.specs.Inside.{Ready}
@@ -86,16 +85,18 @@ returns-clause-state c =
     let p = c.sheet.inside.params in
     let x = c.args.self.now in
     let r = x.registers in
+    let places = c.args.rings.now.pending in
     let sums = rw (sym c.sheet.view_is) at c.sums_at-sums.ensures in
     let step = c.step.ensures ∙ ap (λ (d : Option Pending). after_symbol p r (is_some d) (errors_of d)) c.due-due.ensures ∙ stepped ready falling in
     let symbol = c.make-symbol.ensures ∙ symbol-made ready falling (ap (λ (z : AfterSymbol). z.registers) step) c.gain.ensures sums in
-    let queue = simp (held w32 c.make-symbol.result.e (search rules), held w32 c.make-symbol.result.err (search rules)) at c.join.ensures in
+    let ring = simp (held w32 c.make-symbol.result.e (search rules), held w32 c.make-symbol.result.err (search rules)) at c.join.ensures.ring in
+    let queue = c.join.ensures.positions in
     rw (sym c.sheet.view_is) (λ t. record {
       params = p;
       registers = (step t).registers;
-      line = x.line.pairs;
-      head = x.line.head;
-      pending = (ap (λ (y : Queue). y.places) queue ∙ ap (λ (y : Symbol). slice_set x.queue.places ((x.queue.oldest + x.queue.waiting) % ring_places) (record { e = y.e; err = y.err })) symbol) t;
+      line = c.args.rings.now.line;
+      head = x.head;
+      pending = (ring ∙ ap (λ (y : Symbol). slice_set places ((x.queue.oldest + x.queue.waiting) % ring_places) (record { e = y.e; err = y.err })) symbol) t;
       oldest = (queue t).oldest;
       waiting = (queue t).waiting;
       samples = x.samples + 1;

@@ -5,4 +5,5 @@ use Rattle.fixed.proofs.sample.Running.run.Given as goal
 
 abbrev pub invariant-loop-n : goal.invariant-loop-n
 invariant-loop-n l =
-    Turned l.sheet l.values l.initial.out (state_of l.sheet.params l.initial.self) l.out (state_of l.sheet.params l.self) l.count l.clips l.n
+    Turned l.sheet l.values l.initial.out (state_of l.sheet.params l.initial.self l.initial.rings)
+    l.out (state_of l.sheet.params l.self l.rings) l.count l.clips l.n

@@ -89,5 +89,4 @@ filter-requires c =
 pub returns : goal.returns
 returns c =
     let r = rw (sym c.sheet.view_is) at c.requires in
-    let line = c.args.self.now.line in
-    rw (sym c.sheet.view_is) (c.filter.ensures ∙ sums-are _ r.accepted c.args.phase r.bounds.1 line.pairs line.head)
+    rw (sym c.sheet.view_is) (c.filter.ensures ∙ sums-are _ r.accepted c.args.phase r.bounds.1 c.args.rings.now.line c.args.self.now.head)

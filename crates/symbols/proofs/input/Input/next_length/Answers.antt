@@ -6,5 +6,7 @@ use Rattle.symbols.proofs.input.Input.next_length.Goals as goal
 pub returns-in-Ok-Line : goal.returns-in-Ok-Line
 returns-in-Ok-Line c =
     let self = c.loop.self in
-    let inside = line_inside (take (self.end - self.at) (drop self.at self.bytes)) self.over self.line c.in-Ok-Line.n (sym c.in-Ok-Line.ensures ∙ ap Ok c.in-Ok-Line.field-0-is) in
-    omega (arith, inside, length-take-le (self.end - self.at) (drop self.at self.bytes), length-drop self.at self.bytes)
+    let on = drop self.at self.bytes in
+    let line = c.in-Ok-Line in
+    let inside = line_inside (take (self.end - self.at) on) self.over self.line line.n (sym line.ensures ∙ ap Ok line.field-0-is) in
+    omega (arith, inside, length-take-le (self.end - self.at) on, length-drop self.at self.bytes)
