@@ -44,7 +44,7 @@ through the archive. A block of 1 is a call for each pair.
 The last line is of whole programs, from start to end, the least of five rounds: \`oracle symbols\` (oracle/driver), a plain program over isdb-rs, and the
 symbol program. Both read the same file of a million pairs and write to /dev/null; before they are measured they have to print the same list.
 
-What counts is the ratio: how many times as fast this code is. Where the linker puts the code moves it too, in short calls by up to 5 percent: two versions of
+What counts is the ratio: how many times as fast this code is. Where the linker puts the code moves it too, in short calls by up to 15 percent: two versions of
 the code are compared at several places, by one build of the bench.
 
 END
