@@ -20,7 +20,8 @@ use registers::{Pending, Registers};
 use state::RING_PLACES;
 use symbol::{Sums, Symbol};
 
-// The state's numbers, but for the sheet's.
+// The state's numbers, but for the sheet's. Clauses put a state together from these, the rings and the sheet (`state_of`): no Model of one struct is a state.
+// That the head is below the taps is asked where it is used: the taps are the sheet's, so no invariant of this struct can speak of them.
 #[derive(Clone, Copy)]
 pub(crate) struct Running {
     pub(crate) registers: Registers,
@@ -41,7 +42,8 @@ impl Running {
     // Steps 1 and 2: the sample is mixed, the phase word goes on, and the mixed sample is the line's newest.
     fn join(&mut self, rings: &mut Rings, sheet: &Sheet<'_>, wheel: &Wheel, sample: Sample)
         requires { (self.old.head < sheet.now.params.taps) × (sheet.now.params.taps ≤ 64) }
-        ensures { state_of sheet.now.params self.new rings.new ≡ joined sheet.now (state_of sheet.now.params self.old rings.old) (record { i = sample.i; q = sample.q }) }
+        ensures { state_of sheet.now.params self.new rings.new
+            ≡ joined sheet.now (state_of sheet.now.params self.old rings.old) (record { i = sample.i; q = sample.q }) }
     {
         let head = line::next_head(sheet.params.taps as usize, self.head);
         rings.line.set(head, wheel.mix(self.registers.nco, sample));
@@ -116,7 +118,8 @@ impl Running {
         sample: Sample,
     ) -> Option<Symbol>
         requires { Ready sheet.now (state_of sheet.now.params self.old rings.old) }
-        ensures state { state_of sheet.now.params self.new rings.new ≡ next sheet.now (state_of sheet.now.params self.old rings.old) (record { i = sample.i; q = sample.q }) }
+        ensures state { state_of sheet.now.params self.new rings.new
+            ≡ next sheet.now (state_of sheet.now.params self.old rings.old) (record { i = sample.i; q = sample.q }) }
         ensures symbol { made result ≡ made_by sheet.now (state_of sheet.now.params self.old rings.old) (record { i = sample.i; q = sample.q }) }
     {
         self.join(rings, sheet, wheel, sample);
