@@ -24,18 +24,18 @@ use Rattle.timing.proofs.Schedule.{given_by, given, given-long, Along, along-bot
 
 unfoldable pub in_force : Sheet → List CommitAt → ℕ → Sheet
 in_force s [] n = s
-in_force s (m ∷ ms) n = in_force (cond (leb m.count n) m.sheet s) ms n
+in_force s (m ∷ ms) n = in_force (cond (leb m.samples n) m.sheet s) ms n
 
 -- the commits up to a sample decide
 pub force-upto : (s : Sheet) (ms : List CommitAt) (m n : ℕ) → n ≤ m → in_force s (up_to m ms) n ≡ in_force s ms n
 unfolding in_force up_to
 force-upto s [] m n h = refl
-force-upto s (c ∷ ms) m n h = go (leb c.count m) refl (λ t. force-upto t ms m n h)
+force-upto s (c ∷ ms) m n h = go (leb c.samples m) refl (λ t. force-upto t ms m n h)
   where
-    go : (b : Bool) → leb c.count m ≡ b → ((t : Sheet) → in_force t (up_to m ms) n ≡ in_force t ms n) → in_force s (up_to m (c ∷ ms)) n ≡ in_force s (c ∷ ms) n
-    go true e rest = rw e (rest (cond (leb c.count n) c.sheet s))
+    go : (b : Bool) → leb c.samples m ≡ b → ((t : Sheet) → in_force t (up_to m ms) n ≡ in_force t ms n) → in_force s (up_to m (c ∷ ms)) n ≡ in_force s (c ∷ ms) n
+    go true e rest = rw e (rest (cond (leb c.samples n) c.sheet s))
     go false e rest =
-        let late : leb c.count n ≡ false = lt-leb c.count n (omega (arith, leb-false c.count m e)) in
+        let late : leb c.samples n ≡ false = lt-leb c.samples n (omega (arith, leb-false c.samples m e)) in
         rw (e, late) (rest s)
 
 pub force-alike : (s : Sheet) (a b : List CommitAt) (m n : ℕ) → up_to m a ≡ up_to m b → n ≤ m → in_force s a n ≡ in_force s b n
@@ -44,7 +44,7 @@ force-alike s a b m n e h = sym (force-upto s a m n h) ∙ ap (λ (l : List Comm
 -- commits none of which was made before sample n
 abbrev Later : ℕ → List CommitAt → Type 0
 Later n [] = Unit {0}
-Later n (m ∷ ms) = (n ≤ m.count) × Later n ms
+Later n (m ∷ ms) = (n ≤ m.samples) × Later n ms
 
 sooner : (n k : ℕ) (ms : List CommitAt) → n ≤ k → Later k ms → Later n ms
 sooner n k [] h l = tt
@@ -57,7 +57,7 @@ later-both n (m ∷ a) b l r = (l.0, later-both n a b l.1 r)
 force-before : (s : Sheet) (ms : List CommitAt) (k n : ℕ) → Later k ms → n < k → in_force s ms n ≡ s
 unfolding in_force
 force-before s [] k n l h = refl
-force-before s (m ∷ ms) k n l h = rw (lt-leb m.count n (omega (arith, l.0))) (force-before s ms k n l.1 h)
+force-before s (m ∷ ms) k n l h = rw (lt-leb m.samples n (omega (arith, l.0))) (force-before s ms k n l.1 h)
 
 -- ---- of a list of calls
 

@@ -69,13 +69,13 @@ clipped f (c ∷ cs) = clipped_by f c + clipped (state_by f c) cs
 
 -- A commit that was accepted: how many samples had been taken before it, and its sheet with the banks.
 pub record CommitAt : Type 0 where
-  pub count : ℕ
+  pub samples : ℕ
   pub sheet : Sheet
 
 -- Those of one call, with so many samples taken before it: one or none.
 abbrev pub committed_by : ℕ → Frontend → Call → List CommitAt
 committed_by n f (block s values out) = []
-committed_by n f (commit s ticket) = cond (eqb (commit_of s ticket f).refused.number 0) (record { count = n; sheet = s } ∷ []) []
+committed_by n f (commit s ticket) = cond (eqb (commit_of s ticket f).refused.number 0) (record { samples = n; sheet = s } ∷ []) []
 
 -- Those of some calls, in order, with so many samples taken before the first.
 unfoldable pub commits : ℕ → Frontend → List Call → List CommitAt

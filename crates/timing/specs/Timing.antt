@@ -68,10 +68,10 @@ pub record AgreeUpTo (n : ℕ) (xs ys : List Pair) : Type 0 where
   pub there : n < length ys
   pub same : (m : ℕ) → m ≤ n → get_or xs m no_pair ≡ get_or ys m no_pair
 
--- The commits at counts of at most n: those that were made before sample n or an earlier one.
+-- The commits behind at most n samples: those that were made before sample n or an earlier one.
 unfoldable pub up_to : ℕ → List CommitAt → List CommitAt
 up_to n [] = []
-up_to n (m ∷ ms) = cond (leb m.count n) (m ∷ up_to n ms) (up_to n ms)
+up_to n (m ∷ ms) = cond (leb m.samples n) (m ∷ up_to n ms) (up_to n ms)
 
 -- Two lists from one start are alike: each keeps to its sheets, and the accepted commits of both are the same, in order, behind as many samples.
 abbrev pub Alike : Sheet → List Call → List Call → Type 0
