@@ -9,8 +9,8 @@
  */
 #include "recording.h"
 
-/* Most pairs of a block, and how many are taken at once. */
-#define PAIRS 4096
+/* Most pairs of a block, and how many symbols a call has room for. */
+#define PAIRS 100000
 #define ROOM 256
 
 /* The gain to begin with and the step down, in dB. */
@@ -90,10 +90,7 @@ static int set_gain(struct receiver *rx, const struct dish *dish, const struct r
 static int run(struct recording *r) {
     static struct receiver rx;
     static struct dish dish;
-    int found = 1;
-    if (!start(&rx, r)) return 1;
-    while (dish.length < 2 * PAIRS && (found = read_pair(r, dish.values + dish.length)) == 1) dish.length += 2;
-    if (found < 0) return 1;
+    if (!start(&rx, r) || !read_pairs(r, dish.values, PAIRS, &dish.length)) return 1;
     return set_gain(&rx, &dish, r);
 }
 

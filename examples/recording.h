@@ -155,6 +155,22 @@ static int read_pair(struct recording *r, int16_t *values) {
     return 1;
 }
 
+/* Reads all samples that are left, at most so many, and says how many values they are. Answers 1, or 0 where something is wrong, which it reports. */
+static inline int read_pairs(struct recording *r, int16_t *values, size_t most, size_t *length) {
+    int16_t pair[2];
+    int found;
+    *length = 0;
+    while ((found = read_pair(r, pair)) == 1) {
+        if (*length == 2 * most) {
+            fprintf(stderr, "%s:%ld: more samples than this program has room for, %zu\n", r->name, r->line, most);
+            return 0;
+        }
+        values[(*length)++] = pair[0];
+        values[(*length)++] = pair[1];
+    }
+    return found == 0;
+}
+
 /* Runs a program on the recording that its only word names, and answers the exit status: 1 too where not all of its output could be written. */
 static int with_recording(int words, char **word, const char *usage, int (*run)(struct recording *)) {
     struct recording r = {NULL, NULL, 0};

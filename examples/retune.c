@@ -13,7 +13,7 @@
 #include <math.h>
 
 /* Most pairs of a recording, how many symbols a call has room for, and over how many symbols a spread is taken. */
-#define PAIRS 4096
+#define PAIRS 100000
 #define ROOM 256
 #define LAST 200
 
@@ -123,11 +123,8 @@ static int compare(const struct recording *r, struct receiver *rx, const int16_t
 static int run(struct recording *r) {
     static struct receiver rx;
     static int16_t values[2 * PAIRS];
-    size_t length = 0;
-    int found = 1;
-    if (!start(&rx, r)) return 1;
-    while (length < 2 * PAIRS && (found = read_pair(r, values + length)) == 1) length += 2;
-    if (found < 0) return 1;
+    size_t length;
+    if (!start(&rx, r) || !read_pairs(r, values, PAIRS, &length)) return 1;
     return compare(r, &rx, values, length);
 }
 

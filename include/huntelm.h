@@ -190,8 +190,8 @@ static inline uint32_t huntelm_state_block(struct huntelm_state *state, const st
 static inline uint32_t huntelm_state_read(const struct huntelm_state *state, const struct huntelm_sheet *sheet, int64_t answer[HUNTELM_READ_PLACES]);
 
 /*
- * Asks whether a state as it is now may go on under another sheet with its banks, and writes the ticket to put that sheet into it. Nothing in the state changes.
- * The ticket is the number of the state's symbols, and a number is all that it is: it reserves nothing, and holds until the next symbol is made.
+ * Asks whether a state as it is now may go on under another sheet with its banks, and writes the ticket to put that sheet into it. Nothing in the state
+ * changes. The ticket is the number of the state's symbols, and a number is all that it is: it reserves nothing, and holds until the next symbol is made.
  *
  * The sheet may differ from the held one in every field but taps and delay.
  *
@@ -200,7 +200,7 @@ static inline uint32_t huntelm_state_read(const struct huntelm_state *state, con
  *
  * In a run 9 says that the period or the integrator is outside the new clamps (period_min .. period_max, integrator_max). They move with the symbols: wait for
  * the next block and ask again, or widen the sheet. Fewer taps may be 9 as well, where the newest sample of the line stands behind them, and may stay so
- * however long one waits: take the held ones.
+ * however long one waits: compare the taps before you ask.
  */
 static inline uint32_t huntelm_state_ask(const struct huntelm_state *state, const struct huntelm_sheet *sheet, uint64_t *ticket);
 
@@ -328,18 +328,21 @@ enum huntelm_symbol_place {
     HUNTELM_SYMBOL_ERR = 19    /* its gain error, likewise */
 };
 
-/* The places of a state, up to the held sheet. */
+/*
+ * The places of a state, up to the held sheet: what each takes, where a count is 0 .. 2^63 - 1, and what it is. In a run they are within narrower bounds. The
+ * held sheet's places take what those of a sheet take; a number that they do not take is 9, as in all places of a state, and not 19.
+ */
 enum huntelm_state_place {
-    HUNTELM_STATE_NCO = 0,      /* phase of the mixer, 2^32 to the turn */
-    HUNTELM_STATE_T = 1,        /* how far behind the next sample the next symbol lies, 2^24 to the sample */
-    HUNTELM_STATE_V = 2,        /* the loop's integrator, 2^40 to the sample */
-    HUNTELM_STATE_PERIOD = 3,   /* the period of the last symbol, 2^24 to the sample */
-    HUNTELM_STATE_GAIN_ACC = 4, /* gain accumulator, 256 times the gain */
-    HUNTELM_STATE_SYMBOLS = 5,  /* symbols so far, which is the ticket of a retune */
-    HUNTELM_STATE_HEAD = 6,     /* where the newest pair of the line stands */
-    HUNTELM_STATE_OLDEST = 7,   /* where the errors stand that have waited longest: 0 .. 23, whatever the delay */
-    HUNTELM_STATE_WAITING = 8,  /* how many pairs of errors wait: symbols so far or the sheet's delay, whichever is less */
-    HUNTELM_STATE_SAMPLES = 9   /* samples so far */
+    HUNTELM_STATE_NCO = 0,      /* uint32_t: phase of the mixer, 2^32 to the turn */
+    HUNTELM_STATE_T = 1,        /* int64_t: how far behind the next sample the next symbol lies, 2^24 to the sample */
+    HUNTELM_STATE_V = 2,        /* int64_t: the loop's integrator, 2^40 to the sample */
+    HUNTELM_STATE_PERIOD = 3,   /* uint32_t: the period of the last symbol, 2^24 to the sample */
+    HUNTELM_STATE_GAIN_ACC = 4, /* uint32_t: gain accumulator, 256 times the gain */
+    HUNTELM_STATE_SYMBOLS = 5,  /* count: symbols so far, which is the ticket of a retune */
+    HUNTELM_STATE_HEAD = 6,     /* count: where the newest pair of the line stands */
+    HUNTELM_STATE_OLDEST = 7,   /* count: where the errors stand that have waited longest: 0 .. 23 in a run, whatever the delay */
+    HUNTELM_STATE_WAITING = 8,  /* count: how many pairs of errors wait: symbols so far or the sheet's delay, whichever is less */
+    HUNTELM_STATE_SAMPLES = 9   /* count: samples so far */
 };
 
 /* Where the held sheet begins: its kp is in place HUNTELM_STATE_SHEET + HUNTELM_SHEET_KP of a state, and so on. */

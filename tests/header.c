@@ -700,11 +700,11 @@ static void retunes(void) {
 
 /* The ticket is the number of the state's symbols, and nothing else is. */
 static void tickets(void) {
-    static const uint64_t others[5] = {0, 4, 6, (uint64_t)1 << 63, UINT64_MAX};
+    static const uint64_t others[6] = {0, 4, 6, ((uint64_t)1 << 32) + 5, (uint64_t)1 << 63, UINT64_MAX};
     static const int16_t values[2] = {1000, -1000};
     size_t n;
     under_way();
-    for (n = 0; n < 5; n++) {
+    for (n = 0; n < 6; n++) {
         kept = state;
         expect("another ticket", huntelm_state_commit(&state, &sheet, others[n]), HUNTELM_REFUSED_TICKET);
         expect("it leaves the state", memcmp(&state, &kept, sizeof kept), 0);
@@ -714,6 +714,11 @@ static void tickets(void) {
     expect("behind a commit too", huntelm_state_commit(&state, &sheet, 5), HUNTELM_ACCEPTED);
     expect("a symbol", block(values, 2, OUT, HUNTELM_BLOCK_PLACES), HUNTELM_ACCEPTED);
     expect("and no longer", huntelm_state_commit(&state, &sheet, 5), HUNTELM_REFUSED_TICKET);
+    under_way();
+    state.places[HUNTELM_STATE_SYMBOLS] += (int64_t)1 << 32;
+    state.places[HUNTELM_STATE_SAMPLES] += (int64_t)1 << 33;
+    expect_retune("behind more symbols than 32 bits count");
+    expect("their low half is no ticket", huntelm_state_commit(&state, &sheet, 5), HUNTELM_REFUSED_TICKET);
 }
 
 /* With no place for the ticket, and with another ticket than the state's, which are the last faults of asking and committing. */

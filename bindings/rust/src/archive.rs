@@ -345,7 +345,8 @@ impl Sheet<'_> {
     }
 
     /// Asks whether this sheet may be put into a state, and writes the ticket for [`commit`](Self::commit) to the first place of `answer`: the number of the
-    /// state's symbols. [`Frontend::ask`](crate::Frontend::ask) has what is refused.
+    /// state's symbols. It refuses 18 and 19 of this sheet's places; then what [`Frontend::ask`](crate::Frontend::ask) refuses, where 9 of slices that are no
+    /// state comes before 29 of another delay; then 11 where there is no place for the ticket.
     pub fn ask(self, state: State, answer: &mut [i64]) -> u32 {
         // SAFETY: slices; the one for writing is a `&mut`.
         unsafe {
@@ -371,6 +372,7 @@ impl Sheet<'_> {
     }
 
     /// Puts this sheet into a state: its fields become the held ones, from place [`STATE_SHEET`] on, and nothing else changes. Line and errors are only read.
+    /// It refuses what [`ask`](Self::ask) refuses, but for 11; then 28 where the ticket is not the number of the state's symbols.
     pub fn commit(self, ticket: u64, places: &mut [i64], line: &[i32], errors: &[i32]) -> u32 {
         // SAFETY: slices; the one for writing is a `&mut`.
         unsafe {

@@ -283,7 +283,8 @@ impl Frontend {
     /// - 29 for another delay than the present one;
     /// - 9 where the period or the integrator lies outside the bounds that `params` give them (`period_min`, `period_max`, `integrator_max`): ask again when
     ///   the loop has moved, or with wider bounds;
-    /// - 27 for other taps than the present ones. Fewer taps are 9 at times, since the line may reach past them.
+    /// - 27 for other taps than the present ones. Fewer taps are 9 where the newest sample of the line stands behind them, and may stay so however long one
+    ///   waits: compare `taps` before you ask.
     pub fn ask(&self, params: &Params) -> Result<u64, Refusal> {
         let mut ticket = [0];
         let sheet = params.places();
@@ -498,14 +499,20 @@ mod tests {
         }
     }
 
+    /// The place of a state's symbols so far.
+    const STATE_SYMBOLS: usize = 5;
+
     /// By what a retune with this ticket and this change is refused.
     type Refused = (Refusal, u64, fn(&mut Params));
 
-    /// A refused retune leaves the front end as it was, the state whole, and an accepted one puts in the new sheet and nothing else.
+    /// A refused retune leaves the front end as it was, the state whole, and an accepted one puts in the new sheet and nothing else. The front end has made
+    /// more symbols than 32 bits count, so that a ticket has to come and go whole.
     #[test]
     fn a_retune_changes_the_held_sheet_alone() {
         let mut front = Frontend::new(params()).unwrap();
         front.process(&[[100, -200]; 99], &mut Vec::new()).unwrap();
+        front.state.places[STATE_SYMBOLS] += 1 << 32;
+        front.state.places[STATE_SAMPLES] += 1 << 33;
         let (before, ticket) = (front.clone(), front.symbols());
         let wanted = Params {
             period_nominal: 33_000_000,
@@ -513,11 +520,12 @@ mod tests {
             k: vec![3; 256],
             ..params()
         };
-        let refused: [Refused; 4] = [
+        let refused: [Refused; 5] = [
             (Refusal::Range, ticket, |p| p.bits = 9),
             (Refusal::Delay, ticket, |p| p.delay = 23),
             (Refusal::State, ticket, |p| p.period_max = 33_000_000),
             (Refusal::Ticket, ticket - 1, |_| ()),
+            (Refusal::Ticket, ticket - (1 << 32), |_| ()),
         ];
         for (refusal, ticket, change) in refused {
             let mut wanted = wanted.clone();

@@ -9,12 +9,13 @@ use huntelm::archive::{self, BLOCK, STATE_SHEET, SYMBOL};
 use huntelm::{Frontend, Params, Refusal, Symbol};
 use lent::{State, fresh, lent};
 
-/// Places of a state: integrator, period, gain accumulator, symbols so far and the newest pair's position.
+/// Places of a state: integrator, period, gain accumulator, symbols so far, the newest pair's position and samples so far.
 const V: usize = 2;
 const PERIOD: usize = 3;
 const GAIN_ACC: usize = 4;
 const SYMBOLS: usize = 5;
 const HEAD: usize = 6;
+const SAMPLES: usize = 9;
 
 /// What a place holds that no call has written.
 const MARK: i64 = -77;
@@ -151,7 +152,14 @@ fn one_change_is_refused_by_its_number() {
         assert_eq!(ask(&p, &state), Err(refusal.number()));
         assert_eq!(answer, Err(refusal.number()));
     }
-    for ticket in [0, ticket - 1, ticket + 1, 1 << 63, u64::MAX] {
+    for ticket in [
+        0,
+        ticket - 1,
+        ticket + 1,
+        ticket + (1 << 32),
+        1 << 63,
+        u64::MAX,
+    ] {
         let answer = commit(&p, &mut state.clone(), ticket);
         assert_eq!(answer, Err(Refusal::Ticket.number()));
     }
@@ -165,7 +173,9 @@ fn of_several_the_first_in_order() {
     front
         .process(&recording(RECORDING).1[..700], &mut Vec::new())
         .unwrap();
-    assert_eq!(front.retune(9, p.clone()), Err(Refusal::Ticket));
+    for ticket in [9, front.symbols() + (1 << 32)] {
+        assert_eq!(front.retune(ticket, p.clone()), Err(Refusal::Ticket));
+    }
     for (refusal, change) in IN_ORDER {
         change(&mut p);
         let number = refusal.number();
@@ -349,6 +359,18 @@ fn a_ticket_holds_until_the_next_symbol() {
         }
     }
     assert!(held > 100, "{held}");
+}
+
+/// A ticket has 64 bits: behind more symbols than 32 bits count it comes back whole, and its low half is none.
+#[test]
+fn a_ticket_of_64_bits() {
+    let (p, mut state, _) = under_way(300);
+    let low = state.places[SYMBOLS] as u64;
+    state.places[SYMBOLS] += 1 << 32;
+    state.places[SAMPLES] += 1 << 33;
+    assert_eq!(ask(&p, &state), Ok(low + (1 << 32)));
+    assert_eq!(commit(&p, &mut state, low), Err(Refusal::Ticket.number()));
+    assert_eq!(commit(&p, &mut state, low + (1 << 32)), Ok(()));
 }
 
 /// Every symbol has the period and the gain that docs/RULES.md, 3.6, gives it under the sheet in force at its sample.
