@@ -1,4 +1,4 @@
-// The 18 fields of a sheet without its banks, as a state holds them: what stands there where no sheet was accepted, and whether two sheets are the same.
+// The 18 fields of a sheet without its banks, as a state holds them: what stands there where there is no sheet, and whether two sheets are the same.
 #![tactic(auto)]
 
 ghost use Rattle.std.specs.Prelude.{◌≡◌};

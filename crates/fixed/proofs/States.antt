@@ -18,7 +18,7 @@ use Rattle.state.specs.Start.{ring_places, no_pending}
 use Rattle.state.proofs.Going.{time, minus-nat, Going}
 use Rattle.fixed.specs.Line.{next_head}
 use Rattle.fixed.specs.Queue.{oldest_due}
-use Rattle.fixed.specs.Sample.{due, joined, with_symbol, without_symbol, falls, next, after}
+use Rattle.fixed.specs.Sample.{registers_found, joined, with_symbol, without_symbol, falls, next, after}
 
 -- ---- the line's position
 
@@ -32,19 +32,19 @@ head-below taps head h = go (eqb head 0) refl
 
 -- ---- the errors that are due move the loop, and nothing else
 
-pub due-time : (p : Params) (f : Frontend) → (due p f).t_acc ≡ f.registers.t_acc
-unfolding due found corrected
-due-time p f = go (oldest_due p f) refl
+pub found-time : (p : Params) (f : Frontend) → (registers_found p f).t_acc ≡ f.registers.t_acc
+unfolding registers_found found corrected
+found-time p f = go (oldest_due p f) refl
   where
-    go : (b : Bool) → oldest_due p f ≡ b → (due p f).t_acc ≡ f.registers.t_acc
+    go : (b : Bool) → oldest_due p f ≡ b → (registers_found p f).t_acc ≡ f.registers.t_acc
     go true e = rw e
     go false e = rw e
 
-pub due-symbols : (p : Params) (f : Frontend) → (due p f).symbols ≡ f.registers.symbols
-unfolding due found corrected
-due-symbols p f = go (oldest_due p f) refl
+pub found-symbols : (p : Params) (f : Frontend) → (registers_found p f).symbols ≡ f.registers.symbols
+unfolding registers_found found corrected
+found-symbols p f = go (oldest_due p f) refl
   where
-    go : (b : Bool) → oldest_due p f ≡ b → (due p f).symbols ≡ f.registers.symbols
+    go : (b : Bool) → oldest_due p f ≡ b → (registers_found p f).symbols ≡ f.registers.symbols
     go true e = rw e
     go false e = rw e
 
@@ -82,9 +82,9 @@ module _ (s : Sheet) (a : Accepted s) where
       }
 
   -- the loop as a symbol finds it
-  pub due-within : (f : Frontend) → Going p f → Within p (loop_of (due p f))
-  unfolding due found
-  due-within f g = go (oldest_due p f) refl
+  pub found-within : (f : Frontend) → Going p f → Within p (loop_of (registers_found p f))
+  unfolding registers_found found
+  found-within f g = go (oldest_due p f) refl
     where
       r : Registers
       r = f.registers
@@ -92,7 +92,7 @@ module _ (s : Sheet) (a : Accepted s) where
       w : Pending
       w = get_or f.pending f.oldest no_pending
 
-      go : (b : Bool) → oldest_due p f ≡ b → Within p (loop_of (due p f))
+      go : (b : Bool) → oldest_due p f ≡ b → Within p (loop_of (registers_found p f))
       go true e =
           subst (λ (b : Bool). Within p (loop_of (cond b (corrected p r w) r))) (sym e)
           (subst (Within p) (sym (corrected-moves p r w)) (moved-within p a.periods a.fields (loop_of r) w))
@@ -101,11 +101,11 @@ module _ (s : Sheet) (a : Accepted s) where
   pub with-symbol-going : (f : Frontend) → time f < 16777216 → Going p f → Going p (with_symbol s f)
   unfolding with_symbol left
   with-symbol-going f h g =
-      let w = due-within f g in
-      let n : ℕ = time f + (due p f).period in
-      let t : (due p f).t_acc +ℤ pos (due p f).period -ℤ one ≡ pos (n - 16777216) =
-      ap (λ (z : ℤ). z +ℤ pos (due p f).period -ℤ one) (due-time p f ∙ g.whole) ∙ minus-nat n 16777216 (omega (arith, a.periods, w.low)) in
-      let m : nat_abs ((due p f).t_acc +ℤ pos (due p f).period -ℤ one) ≡ n - 16777216 = ap nat_abs t in
+      let w = found-within f g in
+      let n : ℕ = time f + (registers_found p f).period in
+      let t : (registers_found p f).t_acc +ℤ pos (registers_found p f).period -ℤ one ≡ pos (n - 16777216) =
+      ap (λ (z : ℤ). z +ℤ pos (registers_found p f).period -ℤ one) (found-time p f ∙ g.whole) ∙ minus-nat n 16777216 (omega (arith, a.periods, w.low)) in
+      let m : nat_abs ((registers_found p f).t_acc +ℤ pos (registers_found p f).period -ℤ one) ≡ n - 16777216 = ap nat_abs t in
       record {
         head = g.head;
         whole = t ∙ ap pos (sym m);
@@ -113,19 +113,19 @@ module _ (s : Sheet) (a : Accepted s) where
         loop = w;
         waiting = queue_long;
         oldest = queue-place;
-        few = omega (arith, due-symbols p f);
+        few = omega (arith, found-symbols p f);
       }
     where
       -- the oldest leave the ring
       leave : Bool
       leave = oldest_due p f
 
-      queue_long : cond leave f.waiting (f.waiting + 1) ≡ min ((due p f).symbols + 1) p.delay
+      queue_long : cond leave f.waiting (f.waiting + 1) ≡ min ((registers_found p f).symbols + 1) p.delay
       queue_long = go leave refl
         where
-          go : (b : Bool) → leave ≡ b → cond leave f.waiting (f.waiting + 1) ≡ min ((due p f).symbols + 1) p.delay
-          go true e = let c = eqb-true f.waiting p.delay e in rw e (omega (arith, g.waiting, due-symbols p f))
-          go false e = let c = eqb-false f.waiting p.delay e in rw e (omega (arith, g.waiting, due-symbols p f))
+          go : (b : Bool) → leave ≡ b → cond leave f.waiting (f.waiting + 1) ≡ min ((registers_found p f).symbols + 1) p.delay
+          go true e = let c = eqb-true f.waiting p.delay e in rw e (omega (arith, g.waiting, found-symbols p f))
+          go false e = let c = eqb-false f.waiting p.delay e in rw e (omega (arith, g.waiting, found-symbols p f))
 
       queue-place : cond leave ((f.oldest + 1) % ring_places) f.oldest < ring_places
       queue-place = go leave refl

@@ -111,8 +111,8 @@ abbrev pub running_of : Frontend → Running
 running_of f = record { registers = f.registers; head = f.head; queue = record { oldest = f.oldest; waiting = f.waiting }; samples = f.samples }
 
 -- And put together, under a sheet of these fields: the state that a running block stands for.
-abbrev pub state_of : Params → Running → Rings → Frontend
-state_of p x rings = record {
+abbrev pub frontend_of : Params → Running → Rings → Frontend
+frontend_of p x rings = record {
   params = p;
   registers = x.registers;
   line = rings.line;

@@ -1,4 +1,4 @@
--- What is claimed of a symbol and the six registers: in a state that a block can go on from, at which a symbol falls due, the registers change
+-- What is claimed of a symbol and the six registers: in a good state, at which a symbol falls due, the registers change
 -- as `Registers::step` changes them, with the errors that wait longest, and in no other way.
 -- (RULES 3.11)
 use Rattle.std.specs.Prelude.{◌≡◌, ◌<◌, true}

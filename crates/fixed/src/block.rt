@@ -7,7 +7,7 @@ ghost use Rattle.params.specs.Refusal.{nothing};
 ghost use Rattle.state.specs.Check.{good_state};
 ghost use Rattle.fixed.specs.Sample.{after, emitted};
 ghost use Rattle.fixed.specs.Block.{pairs_of};
-ghost use Rattle.fixed.specs.Inside.{running_of, rings_of, state_of, Writes};
+ghost use Rattle.fixed.specs.Inside.{running_of, rings_of, frontend_of, Writes};
 
 use crate::line::Line;
 use crate::mix::{Sample, Wheel};
@@ -53,7 +53,7 @@ impl Running {
 
     // And put together again.
     pub(crate) fn put(&self, rings: &Rings, f: &mut Frontend)
-        ensures { f.new ≡ state_of f.old.params self.now rings.now }
+        ensures { f.new ≡ frontend_of f.old.params self.now rings.now }
     {
         f.registers = self.registers;
         f.line = rings.line.lowered();
@@ -73,10 +73,10 @@ impl Running {
         out: &mut [i64],
     ) -> Written
         requires accepted { judged sheet.now ≡ nothing }
-        requires good { good_state sheet.now.params (state_of sheet.now.params self.old rings.old) ≡ true }
+        requires good { good_state sheet.now.params (frontend_of sheet.now.params self.old rings.old) ≡ true }
         requires room { (20 * (length values.now / 2) ≤ length out.old) × (self.old.samples + length values.now / 2 ≤ 9223372036854775807) }
-        ensures state { state_of sheet.now.params self.new rings.new ≡ after sheet.now (state_of sheet.now.params self.old rings.old) (pairs_of values.now) }
-        ensures written { Writes (emitted sheet.now (state_of sheet.now.params self.old rings.old) (pairs_of values.now))
+        ensures state { frontend_of sheet.now.params self.new rings.new ≡ after sheet.now (frontend_of sheet.now.params self.old rings.old) (pairs_of values.now) }
+        ensures written { Writes (emitted sheet.now (frontend_of sheet.now.params self.old rings.old) (pairs_of values.now))
             out.old out.new result.count result.clips }
     {
         let wheel = Wheel::new();

@@ -9,7 +9,7 @@ ghost use Rattle.params.specs.Judge.{judged};
 ghost use Rattle.fixed.specs.declared.sample.Rings.{Rings};
 ghost use Rattle.fixed.specs.Filter.{filtered};
 ghost use Rattle.fixed.specs.Sample.{joined, symbol_of, with_symbol, without_symbol, falls, next, made_by};
-ghost use Rattle.fixed.specs.Inside.{state_of, Ready, made};
+ghost use Rattle.fixed.specs.Inside.{frontend_of, Ready, made};
 
 use crate::filter::{self, Rows};
 use crate::line::{self, Line};
@@ -20,7 +20,7 @@ use registers::{Pending, Registers};
 use state::RING_PLACES;
 use symbol::{Sums, Symbol};
 
-// The state's numbers, but for the sheet's. Clauses put a state together from these, the rings and the sheet (`state_of`): no Model of one struct is a state.
+// The state's numbers, but for the sheet's. Clauses put a state together from these, the rings and the sheet (`frontend_of`): no Model of one struct is a state.
 // That the head is below the taps is asked where it is used: the taps are the sheet's, so no invariant of this struct can speak of them.
 #[derive(Clone, Copy)]
 pub(crate) struct Running {
@@ -42,8 +42,8 @@ impl Running {
     // Steps 1 and 2: the sample is mixed, the phase word goes on, and the mixed sample is the line's newest.
     fn join(&mut self, rings: &mut Rings, sheet: &Sheet<'_>, wheel: &Wheel, sample: Sample)
         requires { (self.old.head < sheet.now.params.taps) × (sheet.now.params.taps ≤ 64) }
-        ensures { state_of sheet.now.params self.new rings.new
-            ≡ joined sheet.now (state_of sheet.now.params self.old rings.old) (record { i = sample.i; q = sample.q }) }
+        ensures { frontend_of sheet.now.params self.new rings.new
+            ≡ joined sheet.now (frontend_of sheet.now.params self.old rings.old) (record { i = sample.i; q = sample.q }) }
     {
         let head = line::next_head(sheet.params.taps as usize, self.head);
         rings.line.set(head, wheel.mix(self.registers.nco, sample));
@@ -70,10 +70,10 @@ impl Running {
 
     // Step 3 with a symbol. The registers step first: the symbol reports the gain and the period that they then have.
     fn make_symbol(&mut self, rings: &mut Rings, sheet: &Sheet<'_>) -> Symbol
-        requires ready { Ready sheet.now (state_of sheet.now.params self.old rings.old) }
-        requires due { falls (state_of sheet.now.params self.old rings.old) ≡ true }
-        ensures symbol { result ≡ symbol_of sheet.now (state_of sheet.now.params self.old rings.old) }
-        ensures state { state_of sheet.now.params self.new rings.new ≡ with_symbol sheet.now (state_of sheet.now.params self.old rings.old) }
+        requires ready { Ready sheet.now (frontend_of sheet.now.params self.old rings.old) }
+        requires falls { falls (frontend_of sheet.now.params self.old rings.old) ≡ true }
+        ensures symbol { result ≡ symbol_of sheet.now (frontend_of sheet.now.params self.old rings.old) }
+        ensures state { frontend_of sheet.now.params self.new rings.new ≡ with_symbol sheet.now (frontend_of sheet.now.params self.old rings.old) }
     {
         let p = sheet.params;
         let phase = (self.registers.t_acc >> 18) as usize;
@@ -103,7 +103,7 @@ impl Running {
     // Step 3 without a symbol: only the time goes on.
     fn go_on(&mut self)
         requires { (unsigned_abs self.old.registers.t_acc ≤ 2 ^ 61) × (self.old.samples < 9223372036854775807) }
-        ensures { (p : Params) (rings : Rings) → state_of p self.new rings ≡ without_symbol (state_of p self.old rings) }
+        ensures { (p : Params) (rings : Rings) → frontend_of p self.new rings ≡ without_symbol (frontend_of p self.old rings) }
     {
         self.registers.t_acc -= 0x100_0000;
         self.samples += 1;
@@ -117,10 +117,10 @@ impl Running {
         wheel: &Wheel,
         sample: Sample,
     ) -> Option<Symbol>
-        requires { Ready sheet.now (state_of sheet.now.params self.old rings.old) }
-        ensures state { state_of sheet.now.params self.new rings.new
-            ≡ next sheet.now (state_of sheet.now.params self.old rings.old) (record { i = sample.i; q = sample.q }) }
-        ensures symbol { made result ≡ made_by sheet.now (state_of sheet.now.params self.old rings.old) (record { i = sample.i; q = sample.q }) }
+        requires { Ready sheet.now (frontend_of sheet.now.params self.old rings.old) }
+        ensures state { frontend_of sheet.now.params self.new rings.new
+            ≡ next sheet.now (frontend_of sheet.now.params self.old rings.old) (record { i = sample.i; q = sample.q }) }
+        ensures symbol { made result ≡ made_by sheet.now (frontend_of sheet.now.params self.old rings.old) (record { i = sample.i; q = sample.q }) }
     {
         self.join(rings, sheet, wheel, sample);
         if self.registers.t_acc < 0x100_0000 {

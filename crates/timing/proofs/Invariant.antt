@@ -23,11 +23,11 @@ use Rattle.state.specs.declared.Frontend.{Frontend}
 use Rattle.symbol.specs.declared.Symbol.{Symbol}
 use Rattle.state.specs.Start.{ring_places, no_pending, fresh}
 use Rattle.registers.specs.Step.{is_due, one, found, left}
-use Rattle.fixed.specs.Sample.{due, symbol_of, joined, with_symbol, without_symbol, falls, next, made_by}
+use Rattle.fixed.specs.Sample.{registers_found, symbol_of, joined, with_symbol, without_symbol, falls, next, made_by}
 use Rattle.symbol.specs.Make.{symbol_from}
 use Rattle.retune.specs.Retune.{retuned}
 use Rattle.state.proofs.Going.{time, minus-nat, Going}
-use Rattle.fixed.proofs.States.{head-below, due-time, due-symbols}
+use Rattle.fixed.proofs.States.{head-below, found-time, found-symbols}
 use Rattle.registers.proofs.Loops.{Loop, loop_of, corrected-moves, Within, moved-within}
 use Rattle.timing.proofs.Errors.{total, total-append, errors, errors_of, errors-append, length-errors}
 use Rattle.timing.proofs.Errors.{moved_by, moved_by-next, moved_by-take, fresh_loop, fresh-within}
@@ -191,9 +191,9 @@ module _ (p₀ : Params) (P : ℕ → Params) where
     -- ---- with one
 
     -- the loop as a symbol finds it: after the errors of all but the newest before it, one fewer than the delay
-    due-loop : (f : Frontend) (S : List Symbol) → Inv p f S → loop_of (due p f) ≡ loop_at (fields_of S ++ (p ∷ [])) S
-    unfolding due found
-    due-loop f S i = go (is_due p.delay f.waiting) refl
+    found-loop : (f : Frontend) (S : List Symbol) → Inv p f S → loop_of (registers_found p f) ≡ loop_at (fields_of S ++ (p ∷ [])) S
+    unfolding registers_found found
+    found-loop f S i = go (is_due p.delay f.waiting) refl
       where
         n : ℕ
         n = length S - delay
@@ -205,7 +205,7 @@ module _ (p₀ : Params) (P : ℕ → Params) where
         before : List Params
         before = drop delay (fields_of S)
 
-        go : (b : Bool) → is_due p.delay f.waiting ≡ b → loop_of (due p f) ≡ loop_at (fields_of S ++ (p ∷ [])) S
+        go : (b : Bool) → is_due p.delay f.waiting ≡ b → loop_of (registers_found p f) ≡ loop_at (fields_of S ++ (p ∷ [])) S
         go true e =
             let c : f.waiting ≡ delay = eqb-true f.waiting p.delay e ∙ i.same-delay in
             let q : oldest ≡ get_or (errors S) n no_pending = rw i.made.oldest (i.made.queue n (omega (arith, a.fields)) (omega arith)) in
@@ -228,11 +228,11 @@ module _ (p₀ : Params) (P : ℕ → Params) where
             (omega (arith, length-append (fields_of S) (p ∷ []), length_fields S, i.same-delay)) in
             rw (e, i.made.loop, none, still)
 
-    due-within : (f : Frontend) (S : List Symbol) → Inv p f S → Within p (loop_of (due p f))
-    unfolding due found
-    due-within f S i = go (is_due p.delay f.waiting) refl
+    found-within : (f : Frontend) (S : List Symbol) → Inv p f S → Within p (loop_of (registers_found p f))
+    unfolding registers_found found
+    found-within f S i = go (is_due p.delay f.waiting) refl
       where
-        go : (b : Bool) → is_due p.delay f.waiting ≡ b → Within p (loop_of (due p f))
+        go : (b : Bool) → is_due p.delay f.waiting ≡ b → Within p (loop_of (registers_found p f))
         go true e = rw (e, corrected-moves p f.registers (get_or f.pending f.oldest no_pending)) (moved-within p a.periods a.fields _ _)
         go false e = rw e i.within
 
@@ -244,9 +244,9 @@ module _ (p₀ : Params) (P : ℕ → Params) where
     symbol-placed : (f : Frontend) (S : List Symbol) → P f.samples ≡ p → Inv p f S → time f < 16777216 → Placed S (symbol_of s f)
     unfolding symbol_of symbol_from
     symbol-placed f S e i h =
-        let w = due-within f S i in
-        let l : loop_of (due p f) ≡ loop_at (fields_of (S ++ (symbol_of s f ∷ []))) S =
-        due-loop f S i ∙ ap (λ (ps : List Params). loop_at ps S) (sym (own-fields f S e)) in
+        let w = found-within f S i in
+        let l : loop_of (registers_found p f) ≡ loop_at (fields_of (S ++ (symbol_of s f ∷ []))) S =
+        found-loop f S i ∙ ap (λ (ps : List Params). loop_at ps S) (sym (own-fields f S e)) in
         record {
           place = omega arith;
           phase = omega arith;
@@ -300,28 +300,28 @@ module _ (p₀ : Params) (P : ℕ → Params) where
         → cond (is_due p.delay c) ((o + 1) % ring_places) o ≡ (n + 1 - delay) % ring_places
     oldest-next n c o same h l = grind arith
 
-    total-snoc : (f : Frontend) (S : List Symbol) → total (S ++ (symbol_of s f ∷ [])) ≡ total S + (due p f).period
+    total-snoc : (f : Frontend) (S : List Symbol) → total (S ++ (symbol_of s f ∷ [])) ≡ total S + (registers_found p f).period
     unfolding total symbol_of symbol_from
     total-snoc f S = omega (arith, total-append S (symbol_of s f ∷ []))
 
     -- the time after a symbol
     time-on : (f : Frontend) (S : List Symbol) → Inv p f S
-        → (due p f).t_acc +ℤ pos (due p f).period -ℤ one ≡ pos (time f + (due p f).period - 16777216)
+        → (registers_found p f).t_acc +ℤ pos (registers_found p f).period -ℤ one ≡ pos (time f + (registers_found p f).period - 16777216)
     time-on f S i =
-        let w = due-within f S i in
-        ap (λ (z : ℤ). z +ℤ pos (due p f).period -ℤ one) (due-time p f ∙ i.whole)
-        ∙ minus-nat (time f + (due p f).period) 16777216 (omega (arith, a.periods))
+        let w = found-within f S i in
+        ap (λ (z : ℤ). z +ℤ pos (registers_found p f).period -ℤ one) (found-time p f ∙ i.whole)
+        ∙ minus-nat (time f + (registers_found p f).period) 16777216 (omega (arith, a.periods))
 
     with-symbol-inv : (f : Frontend) (S : List Symbol) → P f.samples ≡ p → Inv p f S → time f < 16777216 → Inv p (with_symbol s f) (S ++ (symbol_of s f ∷ []))
     unfolding with_symbol left errors
     with-symbol-inv f S e i h =
         let m = i.made in
         let y : Symbol = symbol_of s f in
-        let r : Registers = due p f in
+        let r : Registers = registers_found p f in
         let len : length (S ++ (y ∷ [])) ≡ length S + 1 = length-append S (y ∷ []) in
         let ps : List Params = fields_of S ++ (p ∷ []) in
         let many : length ps ≡ length S + 1 = omega (arith, length-append (fields_of S) (p ∷ []), length_fields S) in
-        let w = due-within f S i in
+        let w = found-within f S i in
         let t = time-on f S i in
         let n : nat_abs (r.t_acc +ℤ pos r.period -ℤ one) ≡ time f + r.period - 16777216 = ap nat_abs t in
         record {
@@ -331,9 +331,9 @@ module _ (p₀ : Params) (P : ℕ → Params) where
           rest = omega (arith, a.periods);
           within = w;
           made = record {
-            symbols = omega (arith, due-symbols p f);
+            symbols = omega (arith, found-symbols p f);
             loop =
-                due-loop f S i ∙ sym (loop-snoc f S y ps many (omega (arith, i.same-delay, a.fields)))
+                found-loop f S i ∙ sym (loop-snoc f S y ps many (omega (arith, i.same-delay, a.fields)))
                 ∙ ap (λ (qs : List Params). loop_at qs (S ++ (y ∷ []))) (sym (own-fields f S e));
             size = length-set f.pending _ _ ∙ m.size;
             waiting = rw len (waiting-next (length S) f.waiting i.same-delay m.waiting);

@@ -1,6 +1,6 @@
 // Lists of blocks and commits from a fresh start, and what holds of every one of them. The theorem is about the definitions that the contracts of
-// `Frontend::new`, `fixed::process`, `retune::ask` and `retune::commit` name. So the functions here do nothing: the contract of each is a claim of
-// specs/Timing.antt, and the check proves it.
+// `Frontend::new`, `fixed::process`, `Frontend::read`, `retune::ask` and `retune::commit` name. So the functions here do nothing: the contract of each is a
+// claim of specs/Timing.antt, and the check proves it.
 #![tactic(auto)]
 
 ghost use Rattle.timing.specs.Timing.{TimingHolds, AlikeAhead, WithoutCommits, StatesGoOn, TicketsHold, ClipsFew, CallsAdvance, OffersEnd};

@@ -13,7 +13,7 @@ use Rattle.fixed.specs.declared.sample.Rings.{Rings}
 use Rattle.fixed.specs.declared.sample.Running.{Running}
 use Rattle.fixed.specs.Sample.{after, emitted}
 use Rattle.fixed.specs.Block.{Block, pairs_of, flattened, accepted}
-use Rattle.fixed.specs.Inside.{running_of, rings_of, state_of, Writes}
+use Rattle.fixed.specs.Inside.{running_of, rings_of, frontend_of, Writes}
 use Rattle.fixed.proofs.Turns.{pairs-cut}
 use Rattle.fixed.proofs.run.Goals as goal
 
@@ -36,10 +36,10 @@ module _ (values : List ℤ) (places : ℕ) {n : ℕ} (taken : n ≡ pairs_taken
 
 module _ (s : Sheet) (f : Frontend) (values out : List ℤ) (ok : Faultless s f (length values) (length out)) {n : ℕ}
     (taken : n ≡ pairs_taken (length values) (length out)) {x : Running} {r : Rings} (numbers : x ≡ running_of f) (rings : r ≡ rings_of f) where
-  begins : state_of s.params x r ≡ f
-  begins = λ t. state_of (ok.holds t) (numbers t) (rings t)
+  begins : frontend_of s.params x r ≡ f
+  begins = λ t. frontend_of (ok.holds t) (numbers t) (rings t)
 
-  good : good_state s.params (state_of s.params x r) ≡ true
+  good : good_state s.params (frontend_of s.params x r) ≡ true
   good = ap (good_state s.params) begins ∙ ok.good
 
   room : (20 * (length (take (2 * n) values) / 2) ≤ length out) × (x.samples + length (take (2 * n) values) / 2 ≤ 9223372036854775807)
@@ -49,14 +49,14 @@ module _ (s : Sheet) (f : Frontend) (values out : List ℤ) (ok : Faultless s f 
       (omega (arith, long, roomy values (length out) taken), omega (arith, long, samples, taken, ok.sizes.few))
 
   answer : {y : Running} {z : Rings} {new : Frontend} {count clips : ℕ} {o : List ℤ}
-      → state_of s.params y z ≡ after s (state_of s.params x r) (pairs_of (take (2 * n) values))
-      → Writes (emitted s (state_of s.params x r) (pairs_of (take (2 * n) values))) out o count clips → new ≡ state_of f.params y z
+      → frontend_of s.params y z ≡ after s (frontend_of s.params x r) (pairs_of (take (2 * n) values))
+      → Writes (emitted s (frontend_of s.params x r) (pairs_of (take (2 * n) values))) out o count clips → new ≡ frontend_of f.params y z
       → ◌≡◌ {A = Block} (record { refused = nothing; state = new; taken = n; count = count; clips = clips; output = o }) (accepted s f values out)
   unfolding accepted
   answer {y} {z} {count = count} {clips = clips} {o = o} state writes put =
       let xs : List Pair = take n (pairs_of values) in
       let cut = pairs-cut values n in
-      let ends = put ∙ ap (λ (p : Params). state_of p y z) (sym ok.holds) ∙ state ∙ (λ t. after s (begins t) (cut t)) in
+      let ends = put ∙ ap (λ (p : Params). frontend_of p y z) (sym ok.holds) ∙ state ∙ (λ t. after s (begins t) (cut t)) in
       let w : Writes (emitted s f xs) out o count clips =
       subst (λ (ys : List Symbol). Writes ys out o count clips) (λ t. emitted s (begins t) (cut t)) writes in
       rw (sym taken)

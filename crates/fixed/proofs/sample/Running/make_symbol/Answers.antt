@@ -14,7 +14,7 @@ use Rattle.symbol.specs.Make.{symbol_from}
 use Rattle.state.specs.declared.Frontend.{Frontend}
 use Rattle.state.specs.Start.{ring_places}
 use Rattle.fixed.specs.Filter.{filtered}
-use Rattle.fixed.specs.Sample.{due, falls, symbol_of, with_symbol}
+use Rattle.fixed.specs.Sample.{registers_found, falls, symbol_of, with_symbol}
 use Rattle.fixed.specs.Inside.{Ready}
 use Rattle.fixed.proofs.Ready.{ready-going, ring-holds, soon, stepped, step-gain}
 use Rattle.fixed.proofs.sample.Running.make_symbol.Goals as goal
@@ -41,27 +41,27 @@ module _ {s : Sheet} {f : Frontend} (ready : Ready s f) (falling : falls f ≡ t
   phase-fits = subst (λ (z : ℤ). T (non_neg z) × Fits w64 (nat_abs z)) (sym time-is) (tt, record { fits = omega (arith, soon ready falling) })
 
   -- a symbol of the gain and the period that the registers then have is the definition's
-  symbol-made : {r : Registers} {gain : ℕ} {sums : List Sums} → r ≡ left (due s.params f) → gain ≡ r.gain_acc / 256 % 65536
+  symbol-made : {r : Registers} {gain : ℕ} {sums : List Sums} → r ≡ left (registers_found s.params f) → gain ≡ r.gain_acc / 256 % 65536
       → sums ≡ filtered s (nat_abs time) f.line f.head
       → symbol_from s.params gain r.period f.samples (nat_abs time) sums ≡ symbol_of s f
   unfolding symbol_of left
   symbol-made {r} e g sums =
-      let small : (left (due s.params f)).gain_acc / 256 % 65536 ≡ (left (due s.params f)).gain_acc / 256 = omega (arith, step-gain ready) in
+      let small : (left (registers_found s.params f)).gain_acc / 256 % 65536 ≡ (left (registers_found s.params f)).gain_acc / 256 = omega (arith, step-gain ready) in
       let gain = g ∙ ap (λ (r : Registers). r.gain_acc / 256 % 65536) e ∙ small in
       let of_rows = sums ∙ ap (λ (n : ℕ). filtered s n f.line f.head) phase-at in
       λ t. symbol_from s.params (gain t) (e t).period f.samples (phase-at t) (of_rows t)
 
 pub overflow_cast-phase : goal.overflow_cast-phase
-overflow_cast-phase c = phase-fits c.requires.ready c.requires.due
+overflow_cast-phase c = phase-fits c.requires.ready c.requires.falls
 
 pub due-due-requires : goal.due-due-requires
 due-due-requires c = (ready-going c.requires.ready).oldest
 
 pub sums_at-sums-requires-clause-bounds : goal.sums_at-sums-requires-clause-bounds
-sums_at-sums-requires-clause-bounds c = ((ready-going c.requires.ready).head, phase-below c.requires.ready c.requires.due)
+sums_at-sums-requires-clause-bounds c = ((ready-going c.requires.ready).head, phase-below c.requires.ready c.requires.falls)
 
 pub overflow_cast-phase-2 : goal.overflow_cast-phase-2
-overflow_cast-phase-2 c = let h = phase-below c.requires.ready c.requires.due in record { fits = omega arith }
+overflow_cast-phase-2 c = let h = phase-below c.requires.ready c.requires.falls in record { fits = omega arith }
 
 pub join-requires : goal.join-requires
 join-requires c = ((ready-going c.requires.ready).oldest, ring-holds c.requires.ready)
@@ -69,7 +69,7 @@ join-requires c = ((ready-going c.requires.ready).oldest, ring-holds c.requires.
 pub returns-clause-symbol : goal.returns-clause-symbol
 returns-clause-symbol c =
     let ready = rw (sym c.sheet.view_is) at c.requires.ready in
-    let falling = c.requires.due in
+    let falling = c.requires.falls in
     let p = c.sheet.inside.params in
     let r = c.args.self.now.registers in
     let sums = rw (sym c.sheet.view_is) at c.sums_at-sums.ensures in
@@ -81,7 +81,7 @@ pub returns-clause-state : goal.returns-clause-state
 unfolding with_symbol
 returns-clause-state c =
     let ready = rw (sym c.sheet.view_is) at c.requires.ready in
-    let falling = c.requires.due in
+    let falling = c.requires.falls in
     let p = c.sheet.inside.params in
     let x = c.args.self.now in
     let r = x.registers in
