@@ -9,10 +9,16 @@ use Rattle.floats.specs.Whole.{round_away}
 use Rattle.steps.specs.Steps.{hundredths, period_nominal, at_least_min, period_min, period_max, integrator_max, nco_step, agc_target}
 use Rattle.design.specs.Registers.{sps_of, registers_of}
 use Rattle.design.specs.Design.{good_sps, good_trim, design_faults, design_of}
+use Rattle.fields.specs.Fields.{same_fields}
+use Rattle.state.specs.Start.{fresh}
+use Rattle.state.specs.Check.{good_state, can_go_on}
+use Rattle.state.specs.Read.{read_of}
+use Rattle.retune.specs.Retune.{held_faults, ask_faults, commit_faults, ask_of, retuned, commit_of}
 use Rattle.fixed.specs.Mix.{mixed}
 use Rattle.symbol.specs.Make.{output_of, amplified, quantised, gain_error, symbol_from}
 use Rattle.cases.specs.Sheet.{rows, params_with, plain_sheet, sheet, first_of_k}
 use Rattle.cases.specs.Rates.{two_samples, registers_with}
+use Rattle.cases.specs.Retuned.{under_way, other_nominal, period_from, six_taps}
 use Rattle.cases.specs.Worked.{places_from, Worked}
 use lib.Ieee.{round, neg, mul, div, lt, le, eq, to_unsigned, to_signed}
 use mathlib.Core.List.{flatten}
@@ -22,7 +28,8 @@ unfolding flatten round_shift clamp_z sat16_z sat16_changes output_of amplified 
     coefficient_faults magnitudes row_faults rows_faults detector_place zero_outside length_faults bank_faults rows_outside good_periods good_delay field_faults faults
     judged parts_of offset_of mixed quantised gain_error rows params_with plain_sheet sheet first_of_k places_from round neg mul div lt le eq to_unsigned to_signed
     round_away hundredths sps_of period_nominal at_least_min period_min period_max integrator_max nco_step agc_target registers_of good_sps good_trim design_faults design_of
-    two_samples registers_with
+    two_samples registers_with fresh same_fields good_state can_go_on read_of held_faults ask_faults commit_faults ask_of retuned commit_of under_way
+    other_nominal period_from six_taps
 worked = record {
   round-down = refl;
   round_up = refl;
@@ -53,4 +60,14 @@ worked = record {
   y-clipped = refl;
   z-clipped = refl;
   all-clipped = refl;
+  asked = refl;
+  committed = refl;
+  read-before = refl;
+  read-behind = refl;
+  ticket-refused = refl;
+  taps-refused = refl;
+  state-refused = refl;
+  delay-refused = refl;
+  period-below = refl;
+  period-at = refl;
 }

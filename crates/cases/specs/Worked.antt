@@ -1,19 +1,22 @@
 -- The worked cases as one claim.
--- (RULES 9: P1 to P10 in their order, then clips.)
+-- (RULES 9: P1 to P10 in their order, then clips, then a retune.)
 use Rattle.std.specs.Prelude.{ℕ, zero, suc, ◌≡◌, true, false, cond, List, [], ◌∷◌, ℤ, pos, negsuc}
 use Rattle.arith.specs.Arith.{round_shift, sat16_changes}
 use Rattle.params.specs.declared.Params.{Params}
-use Rattle.params.specs.Refusal.{refusal, nothing}
+use Rattle.params.specs.Refusal.{Refusal, refusal, nothing}
 use Rattle.params.specs.Banks.{detector_place}
-use Rattle.params.specs.Judge.{judged}
+use Rattle.params.specs.Judge.{Sheet, judged}
 use Rattle.offset.specs.Offset.{offset_of}
 use Rattle.design.specs.Refusal.{accepted}
 use Rattle.design.specs.Design.{design_of}
+use Rattle.state.specs.Read.{read_of}
+use Rattle.retune.specs.Retune.{ask_of, commit_of}
 use Rattle.fixed.specs.Mix.{mixed}
 use Rattle.symbol.specs.declared.Sums.{Sums}
 use Rattle.symbol.specs.Make.{quantised, gain_error, symbol_from}
 use Rattle.cases.specs.Sheet.{params_with, plain_sheet, sheet, first_of_k}
 use Rattle.cases.specs.Rates.{two_samples, registers_with}
+use Rattle.cases.specs.Retuned.{under_way, other_nominal, period_from, six_taps}
 
 -- The detector's places among n taps from tap t on.
 unfoldable pub places_from : ℕ → ℕ → ℕ → List ℕ
@@ -48,6 +51,13 @@ abbrev pub clips_with : ℕ → ℤ → ℤ → ℕ
 clips_with gain i q =
     let sums : Sums = record { i = i; q = q } in
     (symbol_from narrow gain 0 0 0 (sums ∷ record { i = pos 0; q = pos 0 } ∷ sums ∷ [])).clips
+
+-- What refuses to put a sheet into the state under way: asking, and committing with this ticket.
+abbrev pub refused_of : Sheet → Refusal
+refused_of s = (ask_of s under_way).refused
+
+abbrev pub refused_with : ℕ → Sheet → Refusal
+refused_with ticket s = (commit_of s ticket under_way).refused
 
 pub record Worked : Type 0 where
   -- P1
@@ -91,3 +101,15 @@ pub record Worked : Type 0 where
   pub y-clipped : clips_with 1024 (pos 536870912) (pos 0) ≡ 2
   pub z-clipped : clips_with 1025 (pos 536854528) (pos 0) ≡ 2
   pub all-clipped : clips_with 1025 (pos 1073741824) (negsuc 1073741823) ≡ 8
+  -- a retune: asking, committing, which moves no register, and reading before and behind
+  pub asked : ask_of other_nominal under_way ≡ record { refused = nothing; ticket = 2 }
+  pub committed : commit_of other_nominal 2 under_way ≡ record { refused = nothing; state = record under_way { params = other_nominal.params } }
+  pub read-before : read_of other_nominal under_way ≡ record { refused = refusal 9 []; period = 0; gain = 0; symbols = 0 }
+  pub read-behind : read_of other_nominal (commit_of other_nominal 2 under_way).state ≡ record { refused = nothing; period = 33554432; gain = 1024; symbols = 2 }
+  -- and what refuses one, in its order: the last fault first, and each with those before it
+  pub ticket-refused : refused_with 1 other_nominal ≡ refusal 28 []
+  pub taps-refused : refused_with 1 (six_taps sheet.params) ≡ refusal 27 []
+  pub state-refused : refused_with 1 (six_taps (period_from 33554433)) ≡ refusal 9 []
+  pub delay-refused : refused_with 1 (six_taps (record (period_from 33554433) { delay = 23 })) ≡ refusal 29 []
+  pub period-below : refused_of (plain_sheet (period_from 33554433)) ≡ refusal 9 []
+  pub period-at : refused_of (plain_sheet (period_from 33554432)) ≡ nothing
