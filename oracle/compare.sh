@@ -106,9 +106,9 @@ for kind in designed extreme mixed clipping; do
     replayed "starting, blocks and readings at each delay, $kind sheets" replay_calls at_each_delay path $kind $((20 * SCALE))
 done
 
-# Retunes: lists of blocks, asks and commits from a fresh start, 20,060 in all with those of the next part: 322,435 commits are accepted, and 516,622 refused by
-# every number that can refuse one. The driver also holds each list against isdb-rs, as far as that can follow it, and against what docs/RULES.md says of lists
-# (5.2 and 5.3).
+# Retunes: lists of blocks, asks and commits from a fresh start, 21,420 in all with those of the next part, 248 of them under a sheet that starting refuses:
+# 344,888 commits are accepted, and 552,210 refused by every number that can refuse one. The driver also holds each list against isdb-rs, as far as that can
+# follow it, and against what docs/RULES.md says of lists (5.2 and 5.3).
 retunes() { # KIND COUNT
     replayed "blocks, readings and retunes, $1 sheets" replay_calls $checked retunes "$1" 1 $(($2 * SCALE))
 }

@@ -131,7 +131,7 @@ impl List {
 
     /// 5.2, 5: the same pairs and commits without the calls that were refused, and with other blocks.
     fn check_cuts(&self, r: &mut Random) -> io::Result<()> {
-        let other = self.again(usize::MAX, r);
+        let other = self.again(usize::MAX, i64::MAX, r);
         let same = other.symbols == self.symbols
             && other.clips == self.clips
             && other.state.numbers() == self.state.numbers();
@@ -145,29 +145,54 @@ impl List {
             return Ok(());
         }
         let i = r.below(symbols.len() as u64) as usize;
-        let other = self.again(symbols[i][SAMPLE] as usize + 1, r);
-        let told = || format!("4, with other pairs behind symbol {i}");
-        let others: Vec<&[i64]> = other.symbols.chunks(SYMBOL).collect();
-        holds(others.len() > i && others[..=i] == symbols[..=i], told)?;
         let end = i + usize::from(self.sheets[0].delay);
-        for (one, other) in symbols.iter().zip(&others).take(end + 1) {
-            let same = [SAMPLE, PHASE, GAIN, PERIOD].map(|place| one[place] == other[place]);
-            holds(same == [true; 4], told)?;
-        }
+        let same = symbols[i][SAMPLE] as usize + 1;
+        let told = || format!("4, with other pairs behind symbol {i}");
+        let other = self.again(same, i64::MAX, r);
+        let made = other.same_ahead(&symbols, i, end, told)?;
         // what a commit is refused for was the same up to this symbol, so none may have ended the other list before it
         let all = other.accepted.len() == self.accepted.len();
-        holds(all || others.len() > end + 1, told)
+        holds(all || made > end + 1, told)?;
+
+        // And without the commits behind the sample of a later symbol. Numbers of its own leave the next list as it is without this.
+        let mut r = Random::new(symbols[i][PERIOD] as u64);
+        let k = (i + r.below((end - i) as u64 + 1) as usize).min(symbols.len() - 1);
+        let told = || format!("4, with other pairs behind symbol {i} and no commit behind {k}");
+        let other = self.again(same, symbols[k][SAMPLE], &mut r);
+        let made = other.same_ahead(&symbols, i, k, told)?;
+        holds(made > k, told)
     }
 
-    /// The list once more, in blocks of other sizes: the same pairs, so many of them, and others in place of those behind. It ends
-    /// before a commit that is refused.
-    fn again(&self, same: usize, r: &mut Random) -> Self {
+    /// Symbols 0 to i are these, place for place, and those up to the end have their timing, where both have them. Answers how many there are.
+    fn same_ahead(
+        &self,
+        symbols: &[&[i64]],
+        i: usize,
+        end: usize,
+        told: impl Fn() -> String,
+    ) -> io::Result<usize> {
+        let own: Vec<&[i64]> = self.symbols.chunks(SYMBOL).collect();
+        holds(own.len() > i && own[..=i] == symbols[..=i], &told)?;
+        for (one, other) in symbols.iter().zip(&own).take(end + 1) {
+            let same = [SAMPLE, PHASE, GAIN, PERIOD].map(|place| one[place] == other[place]);
+            holds(same == [true; 4], &told)?;
+        }
+        Ok(own.len())
+    }
+
+    /// The list once more, in blocks of other sizes: the same pairs, so many of them, and others in place of those behind; and the same
+    /// commits, up to the first behind more than so many samples, from which on the sheet in force stays. It ends before a commit that
+    /// is refused.
+    fn again(&self, same: usize, last: i64, r: &mut Random) -> Self {
         let readings: Vec<Reading> = self.sheets.iter().map(Reading::of).collect();
         let mut list = Self::start(&readings[0]);
         let mut count = 0;
+        let mut stays = None;
+        let mut force = 0;
         for accepted in &self.accepted {
             match accepted {
                 Accepted::Pairs(sheet, pairs) => {
+                    let sheet = stays.as_ref().unwrap_or(sheet);
                     let mut pairs = pairs.clone();
                     let kept = same.saturating_sub(count).min(pairs.len());
                     count += pairs.len();
@@ -181,7 +206,11 @@ impl List {
                         left = rest;
                     }
                 }
+                Accepted::Commit(_) if stays.is_some() || count as i64 > last => {
+                    stays = Some(force);
+                }
                 Accepted::Commit(sheet) => {
+                    force = *sheet;
                     let ticket = readings[*sheet].ask(&list.state).ticket;
                     if !list.commit(&readings[*sheet], ticket).refusal.is_empty() {
                         break;
