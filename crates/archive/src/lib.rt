@@ -1,18 +1,21 @@
 // The front end for C and Rust: crates/calls, and float samples of crates/input, under the names and with the arguments that include/huntelm.h declares.
+// What an accepted start, block or commit leaves in a state's slices is a state, which the next call reads.
 #![tactic(auto)]
 
-ghost use Rattle.std.specs.Prelude.{◌≡◌, Result};
+ghost use Rattle.std.specs.Prelude.{◌≡◌, true, Result, IsOk};
 ghost use Rattle.kinds.specs.Answer.{answer_number};
-ghost use Rattle.places.specs.States.{slices};
+ghost use Rattle.places.specs.States.{slices, state_fits};
 ghost use Rattle.calls.specs.Calls.{judge_number, start_answer, block_answer, read_answer, ask_answer, commit_answer, offset_answer, design_answer};
 ghost use Rattle.calls.specs.Refusal.{call_number};
 ghost use Rattle.input.specs.Input.{sample_answer};
 
 use calls::CallError;
 
-// C has no enums: a call answers 0, or the number of its refusal.
+// C has no enums: a call answers 0, or the number of its refusal, which is another.
+#[tactic(auto, using(calls::proofs::Numbers::call_numbered))]
 fn number(answer: Result<(), CallError>) -> u32
-    ensures { result ≡ answer_number call_number answer }
+    ensures told { result ≡ answer_number call_number answer }
+    ensures accepted { result ≡ 0 → IsOk answer }
 {
     match answer {
         Ok(()) => 0,
@@ -37,9 +40,10 @@ pub extern "C" fn huntelm_start(
     line: &mut [i32],
     errors: &mut [i32],
 ) -> u32
-    ensures { record { number = result; state = slices state.new line.new errors.new }
+    ensures answers { record { number = result; state = slices state.new line.new errors.new }
         ≡ start_answer sheet.now h.now g.now k.now
         (slices state.old line.old errors.old) }
+    ensures fits { result ≡ 0 → state_fits (slices state.new line.new errors.new) ≡ true }
 {
     number(calls::start(sheet, h, g, k, state, line, errors))
 }
@@ -57,7 +61,7 @@ pub extern "C" fn huntelm_block(
     out: &mut [i64],
     answer: &mut [i64],
 ) -> u32
-    ensures { record {
+    ensures answers { record {
       number = result;
       state = slices state.new line.new errors.new;
       output = out.new;
@@ -65,6 +69,7 @@ pub extern "C" fn huntelm_block(
     }
         ≡ block_answer sheet.now h.now g.now k.now
         (slices state.old line.old errors.old) values.now out.old answer.old }
+    ensures fits { result ≡ 0 → state_fits (slices state.new line.new errors.new) ≡ true }
 {
     number(calls::block(sheet, h, g, k, state, line, errors, values, out, answer))
 }
@@ -116,9 +121,10 @@ pub extern "C" fn huntelm_commit(
     line: &[i32],
     errors: &[i32],
 ) -> u32
-    ensures { record { number = result; places = state.new }
+    ensures answers { record { number = result; places = state.new }
         ≡ commit_answer ticket sheet.now h.now g.now k.now
         (slices state.old line.now errors.now) }
+    ensures fits { result ≡ 0 → state_fits (slices state.new line.now errors.now) ≡ true }
 {
     number(calls::commit(ticket, sheet, h, g, k, state, line, errors))
 }

@@ -15,6 +15,8 @@ use Rattle.design.specs.declared.SheetError.{SheetError}
 use Rattle.places.specs.declared.PlacesError.{PlacesError}
 use Rattle.places.specs.declared.PlacesError.TheVariants.{State, Short}
 use Rattle.places.specs.Refusal.{places_refusal}
+use Rattle.calls.specs.declared.refusal.CallError.{CallError}
+use Rattle.calls.specs.Refusal.{call_number}
 use Rattle.design.specs.Refusal.{design_refusal, sheet_refusal}
 
 pub field-numbered : (e : FieldError) → 0 < field_number e
@@ -46,3 +48,13 @@ places-numbered State = lit< tt
 places-numbered Short = lit< tt
 
 pub ruleset numbered = (field-numbered, error-numbered, frontend-numbered, retune-numbered, offset-numbered, sheet-numbered, places-numbered)
+
+-- so a call that answers 0 is not refused
+pub call_numbered : (e : CallError) → 0 < call_number e
+call_numbered (CallError.Fields e) = field-numbered e
+call_numbered (CallError.Params e) = error-numbered e
+call_numbered (CallError.Frontend e) = frontend-numbered e
+call_numbered (CallError.Retune e) = retune-numbered e
+call_numbered (CallError.Offset e) = offset-numbered e
+call_numbered (CallError.Design e) = sheet-numbered e
+call_numbered (CallError.Places e) = places-numbered e

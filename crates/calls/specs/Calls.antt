@@ -1,6 +1,6 @@
 -- What the calls of the C interface answer, for any places, banks and buffers. The answers are those of judging, starting, the block, reading, asking,
--- committing, the offset and a design with its sheet; ours is only how they cross: refusals by number alone, sheets as places and states as three slices, and no
--- buffer touched by a call that is refused. (Float samples: crates/input.)
+-- committing, the offset and a design with its sheet; ours is only how they cross: refusals by number alone, sheets as places and states as three slices, and
+-- no buffer touched by a call that is refused. (Float samples: crates/input.)
 -- (RULES 8.5)
 use Rattle.std.specs.Prelude.{ℕ, cond, List, ◌∷◌, ◌++◌, eqb, leb, length, drop, ℤ, pos, Float}
 use Rattle.kinds.specs.Answer.{Answer, answered, first_number}

@@ -9,10 +9,10 @@
 mod claims;
 mod refusal;
 
-ghost use Rattle.std.specs.Prelude.{◌≡◌, ◌++◌, cond, leb, length, drop, IfOk};
+ghost use Rattle.std.specs.Prelude.{◌≡◌, ◌++◌, true, cond, leb, length, drop, IfOk};
 ghost use Rattle.kinds.specs.Answer.{answered, answer_number};
 ghost use Rattle.places.specs.Refusal.{places_refusal};
-ghost use Rattle.places.specs.States.{slices, state_of};
+ghost use Rattle.places.specs.States.{slices, state_fits, state_of};
 ghost use Rattle.calls.specs.Refusal.{call_number};
 ghost use Rattle.calls.specs.Calls.{judge_number, start_answer, state_number, block_answer, read_answer, ask_answer, commit_answer, offset_answer, design_answer};
 
@@ -45,7 +45,7 @@ pub fn judge(sheet: &[i64], h: &[i32], g: &[i32], k: &[i32]) -> Result<(), CallE
     Ok(())
 }
 
-// Writes the fresh state of a sheet (RULES 3.1).
+// Writes the fresh state of a sheet (RULES 3.1). What it leaves in the slices is a state (8.3), which the next call reads.
 #[tactic(auto, using(crate::proofs::Answers::started), unfolding(crate::specs::Calls::start_answer, places::specs::States::state_written))]
 pub fn start(
     sheet: &[i64],
@@ -56,9 +56,10 @@ pub fn start(
     line: &mut [i32],
     errors: &mut [i32],
 ) -> Result<(), CallError>
-    ensures { record { number = answer_number call_number result; state = slices state.new line.new errors.new }
+    ensures answers { record { number = answer_number call_number result; state = slices state.new line.new errors.new }
         ≡ start_answer sheet.now h.now g.now k.now
         (slices state.old line.old errors.old) }
+    ensures fits { IfOk result (λ done. state_fits (slices state.new line.new errors.new) ≡ true) }
 {
     let params = places::read_sheet(sheet)?;
     let fresh = Frontend::new(&Sheet { params, h, g, k })?;
@@ -67,7 +68,8 @@ pub fn start(
 }
 
 // Takes a block of samples, I before Q, from the state on, as many of them as the output has places for; writes 20 places a symbol, the state after it, and
-// how many symbols it wrote, pairs it took and clips it counted to the first three of four places (RULES 4).
+// how many symbols it wrote, pairs it took and clips it counted to the first three of four places (RULES 4). What it leaves in the state's slices is a state
+// (8.3), which the next call reads.
 #[tactic(auto, using(crate::proofs::Numbers::numbered, crate::proofs::Fitting::block_counts), unfolding(crate::specs::Calls::block_answer))]
 pub fn block(
     sheet: &[i64],
@@ -81,7 +83,7 @@ pub fn block(
     out: &mut [i64],
     answer: &mut [i64],
 ) -> Result<(), CallError>
-    ensures { record {
+    ensures answers { record {
       number = answer_number call_number result;
       state = slices state.new line.new errors.new;
       output = out.new;
@@ -89,6 +91,7 @@ pub fn block(
     }
         ≡ block_answer sheet.now h.now g.now k.now
         (slices state.old line.old errors.old) values.now out.old answer.old }
+    ensures fits { IfOk result (λ done. state_fits (slices state.new line.new errors.new) ≡ true) }
 {
     let params = places::read_sheet(sheet)?;
     let sheet = Sheet { params, h, g, k };
@@ -149,7 +152,7 @@ pub fn read(
 
 // The state of some slices. Where they are none, what judging refuses of the sheet comes first, and then 9.
 #[tactic(auto, using(crate::proofs::Numbers::numbered), unfolding(crate::specs::Calls::state_number, places::specs::States::read_state))]
-fn state_of(sheet: &Sheet<'_>, lent: &Slices<'_>) -> Result<Frontend, CallError>
+fn lent_state(sheet: &Sheet<'_>, lent: &Slices<'_>) -> Result<Frontend, CallError>
     ensures refused { answer_number call_number result ≡ state_number sheet.now lent.now }
     ensures read { IfOk result (λ f. f ≡ state_of lent.now) }
 {
@@ -183,13 +186,13 @@ pub fn ask(
         line,
         errors,
     };
-    let f = state_of(&sheet, &lent)?;
+    let f = lent_state(&sheet, &lent)?;
     let ticket = retune::ask(&f, &sheet)?;
     put(&[ticket as i64], answer)?;
     Ok(())
 }
 
-// Puts the sheet into a state: writes it to the held sheet's places, and leaves all others (RULES 4.5).
+// Puts the sheet into a state: writes it to the held sheet's places, and leaves all others (RULES 4.5). The slices are a state (8.3) afterwards too.
 #[tactic(auto, using(crate::proofs::Numbers::numbered), unfolding(crate::specs::Calls::commit_answer))]
 pub fn commit(
     ticket: u64,
@@ -201,9 +204,10 @@ pub fn commit(
     line: &[i32],
     errors: &[i32],
 ) -> Result<(), CallError>
-    ensures { record { number = answer_number call_number result; places = state.new }
+    ensures answers { record { number = answer_number call_number result; places = state.new }
         ≡ commit_answer ticket sheet.now h.now g.now k.now
         (slices state.old line.now errors.now) }
+    ensures fits { IfOk result (λ done. state_fits (slices state.new line.now errors.now) ≡ true) }
 {
     let params = places::read_sheet(sheet)?;
     let sheet = Sheet { params, h, g, k };
@@ -212,7 +216,7 @@ pub fn commit(
         line,
         errors,
     };
-    let mut f = state_of(&sheet, &lent)?;
+    let mut f = lent_state(&sheet, &lent)?;
     retune::commit(&mut f, ticket, &sheet)?;
     // It writes: 18 places stand behind the first ten.
     places::write_sheet(f.params, &mut state[10..])?;

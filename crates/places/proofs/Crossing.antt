@@ -1,26 +1,25 @@
 -- States cross unchanged. A place without its sign is the place where it has none, the held sheet crosses as a sheet does (Sheets), and taking pairs apart and
 -- putting them together undo each other (InPairs).
 use Prim.Native.Nat.{ℕ, suc, ◌*◌, ◌%◌, ◌<◌}
-use mathlib.Core.Path.{◌≡◌, refl}
-use mathlib.Core.Bool.{true}
+use mathlib.Core.Path.{◌≡◌, refl, ap, ◌∙◌}
+use mathlib.Core.Bool.{Bool, true, false, cond, ◌&&◌}
 use mathlib.Core.List.{List, ◌∷◌}
 use native.Mathlib.Omega.{arith}
 use lib.Dec.{lit<}
 use lib.ListN.{length, get_or, drop}
 use lib.IntN.{ℤ}
-use borrow.Author.Tests.{eq-eqb}
 use Rattle.state.specs.declared.Pair.{Pair}
 use Rattle.registers.specs.declared.Pending.{Pending}
 use Rattle.state.specs.declared.Frontend.{Frontend}
 use Rattle.kinds.specs.declared.Kind.TheVariants.{U8, U32, Count}
 use Rattle.kinds.specs.Kinds.{at, is_kind, are_kinds}
-use Rattle.places.specs.Sheet.{sheet_kinds, sheet_numbers}
-use Rattle.places.specs.States.{Slices, line_of, pending_of, line_numbers, pending_numbers, first_kinds, state_fits, AreState, registers_at, state_of, numbers_of}
-use Rattle.places.specs.Crossing.{Whole, Typed, StatesCross}
+use Rattle.places.specs.Sheet.{sheet_numbers}
+use Rattle.places.specs.States.{Slices, line_of, pending_of, line_numbers, pending_numbers, first_kinds, registers_at, state_of, first_numbers, numbers_of}
+use Rattle.places.specs.States.{are_long, state_fits, AreState, has_places, StateAnswer, state_answered, state_written}
+use Rattle.places.specs.Crossing.{TypedSheet, Whole, Typed, StatesCross}
 use Rattle.arith.proofs.Both.{and_both}
 use Rattle.kinds.proofs.OfKind.{own, front}
-use Rattle.kinds.proofs.Readable.{readable}
-use Rattle.places.proofs.Readable.{are_state, first_at}
+use Rattle.places.proofs.Readable.{are_state, state-made, first_at}
 use Rattle.places.proofs.InPairs.{flat-long, in-flat, flat_in}
 use Rattle.places.proofs.Sheets.{sheets_cross}
 
@@ -62,15 +61,34 @@ back f = λ i.
 
 -- ---- what was written fits
 
+-- where the first places and those of the sheet do
+parts_fit : (f : Frontend) → Whole f → are_kinds first_kinds (first_numbers f) ≡ true → TypedSheet f.params → state_fits (numbers_of f) ≡ true
+unfolding numbers_of sheet_numbers
+parts_fit f w first sheet =
+    state-made (numbers_of f) (record {
+      places = refl;
+      line = omega (arith, line-long f.line, w.line);
+      errors = omega (arith, pending-long f.pending, w.pending);
+      first = rw first refl;
+      sheet = sheets_cross.fit f.params sheet;
+    })
+
+-- slices that were written without a refusal
+pub written_fits : (f : Frontend) (old : Slices) {l : Slices} → ◌≡◌ {A = StateAnswer} (record { number = 0; state = l }) (state_written f old) → Whole f
+    → are_kinds first_kinds (first_numbers f) ≡ true → TypedSheet f.params → state_fits l ≡ true
+unfolding state_written
+written_fits f old {l} is w first sheet = go (are_long old && has_places f) is
+  where
+    go : (b : Bool) → ◌≡◌ {A = StateAnswer} (record { number = 0; state = l }) (state_answered (cond b 0 9) (numbers_of f) old) → state_fits l ≡ true
+    go true e = ap (λ (a : StateAnswer). state_fits a.state) e ∙ parts_fit f w first sheet
+    go false e = let z : ◌≡◌ {A = ℕ} 0 9 = ap (λ (a : StateAnswer). a.number) e in absurd (omega arith)
+
+-- where each field does
 fit : (f : Frontend) → Whole f → Typed f → state_fits (numbers_of f) ≡ true
-unfolding state_fits numbers_of are_kinds sheet_numbers
+unfolding are_kinds
 fit f w t =
-    let sheet = readable sheet_kinds (sheet_numbers f.params) (sheets_cross.fit f.params t.sheet) in
-    let line : length (line_numbers f.line) ≡ 128 = omega (arith, line-long f.line, w.line) in
-    let errors : length (pending_numbers f.pending) ≡ 48 = omega (arith, pending-long f.pending, w.pending) in
-    and_both (and_both (eq-eqb _ 128 line) (eq-eqb _ 48 errors))
-    (and_both t.nco (and_both t.time (and_both t.integrator (and_both t.period (and_both t.gain (and_both t.symbols
-    (and_both t.head (and_both t.oldest (and_both t.waiting (and_both t.samples sheet.each))))))))))
+    let counts = and_both t.symbols (and_both t.head (and_both t.oldest (and_both t.waiting (and_both t.samples refl)))) in
+    parts_fit f w (and_both t.nco (and_both t.time (and_both t.integrator (and_both t.period (and_both t.gain counts))))) t.sheet
 
 -- ---- read and written
 

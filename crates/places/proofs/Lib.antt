@@ -4,3 +4,4 @@ pub mod InPairs
 pub mod Crossing
 pub mod Sheets
 pub mod Placed
+pub mod Typed

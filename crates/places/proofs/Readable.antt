@@ -16,9 +16,9 @@ use Rattle.kinds.specs.Kinds.{at, is_kind, are_kinds, places_number, KindAt}
 use Rattle.places.specs.Sheet.{sheet_kinds, sheet_number}
 use Rattle.places.specs.Rates.{design_kinds, design_number}
 use Rattle.places.specs.States.{Slices, are_long, first_kinds, state_kinds, state_fits, AreState}
-use Rattle.arith.proofs.Both.{and_left, and_right}
+use Rattle.arith.proofs.Both.{and_left, and_right, and_both}
 use Rattle.kinds.proofs.OfKind.{kinds-append}
-use Rattle.kinds.proofs.Readable.{readable-at}
+use Rattle.kinds.proofs.Readable.{readable, readable-at}
 
 -- ---- a sheet
 
@@ -73,6 +73,12 @@ are_state l e =
       first = unrefused first_kinds (take 10 l.places) (omega (arith, length-take 10 l.places, long)) (and_left first _ parts);
       sheet = unrefused sheet_kinds (drop 10 l.places) (omega (arith, length-drop 10 l.places, long)) (and_right first _ parts);
     }
+
+pub state-made : (l : Slices) → AreState l → state_fits l ≡ true
+unfolding state_fits
+state-made l r =
+    and_both (and_both (and_both (eq-eqb _ 28 r.places) (eq-eqb _ 128 r.line)) (eq-eqb _ 48 r.errors))
+    (in_two_parts l.places ∙ and_both (readable first_kinds _ r.first).each (readable sheet_kinds _ r.sheet).each)
 
 pub state-long : (l : Slices) → state_fits l ≡ true → are_long l ≡ true
 unfolding state_fits

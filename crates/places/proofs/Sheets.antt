@@ -2,10 +2,10 @@
 use Prim.Native.Nat.{ℕ, suc, ◌<◌}
 use mathlib.Core.Path.{◌≡◌, refl, sym}
 use mathlib.Core.Bool.{true}
-use mathlib.Core.List.{List, [], ◌∷◌}
+use mathlib.Core.List.{List, [], ◌∷◌, ◌++◌}
 use native.Mathlib.Omega.{arith}
 use lib.Dec.{lit<}
-use lib.ListN.{length, get_or, drop, drop_of_length-le}
+use lib.ListN.{length, get_or, take, drop, drop_of_length-le}
 use lib.IntN.{ℤ}
 use Rattle.arith.proofs.Both.{and_both}
 use Rattle.params.specs.declared.Params.{Params}
@@ -33,6 +33,11 @@ fit p t =
     (and_both t.agc_target (and_both t.agc_shift (and_both t.bits (and_both t.q_shift (and_both t.block_log2
     (and_both t.delay refl))))))))))))))))) in
     rw each refl
+
+-- so the first 18 places can be read once the sheet is written to them
+pub sheet_readable : (p : Params) (l : List ℤ) → TypedSheet p → sheet_number (take 18 (sheet_numbers p ++ drop 18 l)) ≡ 0
+unfolding sheet_numbers
+sheet_readable p l t = fit p t
 
 -- ---- read and written
 

@@ -1,9 +1,10 @@
 // A sheet as 18 places, its fields in their order (RULES 1.1).
-ghost use Rattle.std.specs.Prelude.{◌≤◌, ◌≡◌, ◌++◌, length, drop, IfOk};
+ghost use Rattle.std.specs.Prelude.{◌≤◌, ◌≡◌, ◌++◌, length, take, drop, IfOk};
 ghost use Rattle.kinds.specs.Answer.{answer_number};
 ghost use Rattle.kinds.specs.Kinds.{field_number};
 ghost use Rattle.places.specs.Refusal.{places_refusal};
 ghost use Rattle.places.specs.Sheet.{sheet_kinds, sheet_number, params_at, sheet_numbers, sheet_written};
+ghost use Rattle.places.specs.Crossing.{TypedSheet};
 
 use crate::PlacesError;
 use crate::numbers::number_at;
@@ -73,10 +74,11 @@ pub fn read_sheet(sheet: &[i64]) -> Result<Params, FieldError>
     Ok(params_of(sheet))
 }
 
-// The places of a sheet.
-#[tactic(auto, unfolding(crate::specs::Sheet::sheet_numbers))]
+// The places of a sheet, whose fields have their types.
+#[tactic(auto, using(crate::proofs::Typed::typed), unfolding(crate::specs::Sheet::sheet_numbers))]
 fn places_of(p: Params) -> [i64; 18]
-    ensures { result ≡ sheet_numbers p }
+    ensures written { result ≡ sheet_numbers p }
+    ensures typed { TypedSheet p }
 {
     [
         i64::from(p.taps),
@@ -100,18 +102,20 @@ fn places_of(p: Params) -> [i64; 18]
     ]
 }
 
-// Writes the fields to the first 18 places.
+// Writes the fields, which have their types, to the first 18 places.
 pub(crate) fn write(p: Params, sheet: &mut [i64])
     requires { 18 ≤ length sheet.old }
-    ensures { sheet.new ≡ sheet_numbers p ++ drop 18 sheet.old }
+    ensures written { sheet.new ≡ sheet_numbers p ++ drop 18 sheet.old }
+    ensures typed { TypedSheet p }
 {
     sheet[..18].copy_from_slice(&places_of(p));
 }
 
-// Writes the fields to the first 18 places.
+// Writes the fields to the first 18 places. What it leaves there is a sheet that can be read.
 #[tactic(auto, unfolding(crate::specs::Sheet::sheet_written))]
 pub fn write_sheet(p: Params, sheet: &mut [i64]) -> Result<(), PlacesError>
-    ensures { record { number = answer_number places_refusal result; places = sheet.new } ≡ sheet_written p sheet.old }
+    ensures written { record { number = answer_number places_refusal result; places = sheet.new } ≡ sheet_written p sheet.old }
+    ensures fits { IfOk result (λ done. sheet_number (take 18 sheet.new) ≡ 0) }
 {
     if sheet.len() < 18 {
         return Err(PlacesError::Short);

@@ -1,8 +1,8 @@
 // A state as three slices: 28 places, which are nco, t_acc, v, period, gain_acc, symbols, head, oldest, waiting, samples and the 18 fields of the held sheet;
 // the line's 64 pairs i, q; and the 24 pairs e, err of the ring in which errors wait. Line and ring are as they are stored, and take any number of 32 bits.
-ghost use Rattle.std.specs.Prelude.{◌≡◌, true, false, take, MatchOption};
+ghost use Rattle.std.specs.Prelude.{◌≡◌, true, false, take, MatchOption, IfSome, IfOk};
 ghost use Rattle.kinds.specs.Answer.{answer_number};
-ghost use Rattle.kinds.specs.Kinds.{places_number};
+ghost use Rattle.kinds.specs.Kinds.{are_kinds, places_number};
 ghost use Rattle.places.specs.Refusal.{places_refusal};
 ghost use Rattle.places.specs.States.{slices, are_long, first_kinds, state_fits, AreState, registers_at, state_of, read_state, has_places, first_numbers, state_written};
 
@@ -120,10 +120,11 @@ impl Slices<'_> {
 
 // ---- to slices
 
-// The first ten places of a state, if each of its counts is small enough for one.
-#[tactic(auto, unfolding(crate::specs::States::are_counts))]
+// The first ten places of a state, if each of its counts is small enough for one. Then each has a number of its field's type.
+#[tactic(auto, using(crate::proofs::Typed::typed), unfolding(crate::specs::States::are_counts, kinds::specs::Kinds::are_kinds))]
 fn first_places(f: &Frontend) -> Option<[i64; 10]>
-    ensures { MatchOption result (has_places f.now ≡ false) (λ a. (has_places f.now ≡ true) × (a ≡ first_numbers f.now)) }
+    ensures made { MatchOption result (has_places f.now ≡ false) (λ a. (has_places f.now ≡ true) × (a ≡ first_numbers f.now)) }
+    ensures fits { IfSome result (λ a. are_kinds first_kinds (first_numbers f.now) ≡ true) }
 {
     let r = f.registers;
     Some([
@@ -141,6 +142,7 @@ fn first_places(f: &Frontend) -> Option<[i64; 10]>
 }
 
 // Writes all of a state. The slices are as long as one, and each count has a place. They come one by one, as C lends them.
+// What it leaves in them is a state.
 #[tactic(auto, unfolding(crate::specs::States::state_written, crate::specs::States::numbers_of))]
 pub fn write_state(
     f: &Frontend,
@@ -148,8 +150,9 @@ pub fn write_state(
     line: &mut [i32],
     errors: &mut [i32],
 ) -> Result<(), PlacesError>
-    ensures { record { number = answer_number places_refusal result; state = slices places.new line.new errors.new }
+    ensures written { record { number = answer_number places_refusal result; state = slices places.new line.new errors.new }
         ≡ state_written f.now (slices places.old line.old errors.old) }
+    ensures fits { IfOk result (λ done. state_fits (slices places.new line.new errors.new) ≡ true) }
 {
     let lent = Slices {
         places: &*places,

@@ -43,22 +43,22 @@ left : (c : After-errors-1) → let w = c.write_state in
     (record { number = 0; state = numbers_of c.process.new.f })
 left c =
     let a = c.args in
-    c.write_state.ensures ∙ block_written _ _ _ _ (slices a.state.now a.line.now a.errors.now) _ _ _ _ _ _ _ (told c)
+    c.write_state.ensures.written ∙ block_written _ _ _ _ (slices a.state.now a.line.now a.errors.now) _ _ _ _ _ _ _ (told c)
 
 pub returns-in_err-write_state : goal.returns-in_err-write_state
 returns-in_err-write_state c =
     let written = left (goal.at.returns-in_err-write_state c).After-errors-1 in
     grind (arith, numbered, written)
 
-pub returns : goal.returns
-returns c =
+pub returns-clause-answers : goal.returns-clause-answers
+returns-clause-answers c =
     let a = c.args in
     let done = c.in_ok-done.done in
     let s = sheet_at a.sheet.now a.h.now a.g.now a.k.now in
     let lent = slices a.state.now a.line.now a.errors.now in
     let f = read_state lent in
-    let block = told (goal.at.returns c).After-errors-1 in
-    let written = left (goal.at.returns c).After-errors-1 in
+    let block = told (goal.at.returns-clause-answers c).After-errors-1 in
+    let written = left (goal.at.returns-clause-answers c).After-errors-1 in
     let made = block_made _ _ _ _ lent _ _ a.answer.now c.in_ok-params.ensures.refused _ _ _ _ _ block c.if-answer-lt4.false in
     let taken : to_z w64 done.taken ≡ pos done.taken =
     to_z_pos w64 (omega (arith, ap (λ (b : Block). b.taken) block, taken_small s f a.values.now a.out.now)) in

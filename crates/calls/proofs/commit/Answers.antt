@@ -1,25 +1,26 @@
 -- `commit` meets its contract: slices that are a state have 18 places behind the first ten, so the sheet is written, and what is left are the places of the
--- state with that sheet.
-use Rattle.std.proofs.Common.{rules, arith, ◌≡◌, ◌∙◌, sym, ap, ◌-◌, length}
+-- state with that sheet. The sheet can be read, so the slices are a state again.
+use Rattle.std.proofs.Common.{rules, arith, ◌≡◌, true, ◌∙◌, sym, ap, ◌-◌, length}
 use borrow.Rule.Slice.PartMut.{put_mid}
 use Rattle.kinds.specs.Answer.{Answer, answer_number}
 use Rattle.params.specs.Judge.{sheet_of}
 use Rattle.retune.specs.Retune.{commit_of}
 use Rattle.places.specs.Refusal.{places_refusal}
-use Rattle.places.specs.States.{slices}
+use Rattle.places.specs.States.{slices, state_fits}
 use Rattle.places.proofs.Readable.{are_state}
 use Rattle.calls.specs.Calls.{state_number, commit_answer}
 use Rattle.calls.proofs.Numbers.{numbered}
 use Rattle.calls.proofs.NoState.{state-fits}
-use Rattle.calls.proofs.Committed.{commit_made}
+use Rattle.calls.proofs.Committed.{put_fits, commit_made}
 use Rattle.calls.proofs.commit.Goals.{After-commit, After-state-1}
 use Rattle.calls.proofs.commit.Goals as goal
 
 -- the slices are a state
+state : (c : After-commit) → let a = c.args in state_fits (slices a.state.now a.line.now a.errors.now) ≡ true
+state c = state-fits _ _ (sym c.in_ok-f.ensures.refused)
+
 long : (c : After-commit) → length c.args.state.now ≡ 28
-long c =
-    let a = c.args in
-    (are_state (slices a.state.now a.line.now a.errors.now) (state-fits _ _ (sym c.in_ok-f.ensures.refused))).places
+long c = (are_state _ (state c)).places
 
 pub slice_bounds-write_sheet-count : goal.slice_bounds-write_sheet-count
 slice_bounds-write_sheet-count c = omega (arith, long (goal.at.slice_bounds-write_sheet-count c).After-commit)
@@ -37,12 +38,16 @@ made c =
     let lent = slices a.state.now a.line.now a.errors.now in
     let passes = c.in_ok-f.ensures.refused ∙ ap (λ p. state_number (sheet_of p a.h.now a.g.now a.k.now) lent) c.in_ok-params.ensures.read in
     let told = c.in_ok-commit.ensures ∙ (λ i. commit_of (sheet_of (c.in_ok-params.ensures.read i) a.h.now a.g.now a.k.now) a.ticket (c.in_ok-f.ensures.read i)) in
-    commit_made a.ticket _ _ _ _ lent _ _ c.in_ok-params.ensures.refused passes told c.write_sheet.ensures
+    commit_made a.ticket _ _ _ _ lent _ _ c.in_ok-params.ensures.refused passes told c.write_sheet.ensures.written
 
 pub returns-in_err-write_sheet : goal.returns-in_err-write_sheet
 returns-in_err-write_sheet c =
     let none = (made (goal.at.returns-in_err-write_sheet c).After-state-1).0 in
     grind (arith, numbered, none)
 
-pub returns : goal.returns
-returns c = (made (goal.at.returns c).After-state-1).1
+pub returns-clause-answers : goal.returns-clause-answers
+returns-clause-answers c = (made (goal.at.returns-clause-answers c).After-state-1).1
+
+pub returns-clause-fits : goal.returns-clause-fits
+returns-clause-fits c =
+    put_fits _ (state (goal.at.returns-clause-fits c).After-commit) c.write_sheet.new.sheet c.write_sheet.auto.sheet c.in_ok-write_sheet.ensures.fits
