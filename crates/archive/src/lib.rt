@@ -11,7 +11,7 @@ ghost use Rattle.input.specs.Input.{sample_answer};
 
 use calls::CallError;
 
-// C has no enums: a call answers 0, or the number of its refusal, which is another.
+// C has no enums: a call answers 0, or the number of its refusal, which is never 0.
 #[tactic(auto, using(calls::proofs::Numbers::call_numbered))]
 fn number(answer: Result<(), CallError>) -> u32
     ensures told { result ≡ answer_number call_number answer }

@@ -21,7 +21,7 @@ under_way =
 unfoldable pub other_nominal : Sheet
 other_nominal = plain_sheet (params_with 33000000 32883343 34225520)
 
--- A period from this one on.
+-- The sheet's fields with a nominal period of this, which is also the least one.
 unfoldable pub period_from : ℕ → Params
 period_from least = params_with least least 34225520
 

@@ -52,7 +52,7 @@ clips_with gain i q =
     let sums : Sums = record { i = i; q = q } in
     (symbol_from narrow gain 0 0 0 (sums ∷ record { i = pos 0; q = pos 0 } ∷ sums ∷ [])).clips
 
--- What refuses to put a sheet into the state under way: asking, and committing with this ticket.
+-- What is refused where a sheet is to be put into the state under way: when asking, and when committing with this ticket.
 abbrev pub refused_of : Sheet → Refusal
 refused_of s = (ask_of s under_way).refused
 
@@ -105,11 +105,13 @@ pub record Worked : Type 0 where
   pub asked : ask_of other_nominal under_way ≡ record { refused = nothing; ticket = 2 }
   pub committed : commit_of other_nominal 2 under_way ≡ record { refused = nothing; state = record under_way { params = other_nominal.params } }
   pub read-before : read_of other_nominal under_way ≡ record { refused = refusal 9 []; period = 0; gain = 0; symbols = 0 }
-  pub read-behind : read_of other_nominal (commit_of other_nominal 2 under_way).state ≡ record { refused = nothing; period = 33554432; gain = 1024; symbols = 2 }
+  pub read-behind :
+      read_of other_nominal (commit_of other_nominal 2 under_way).state ≡ record { refused = nothing; period = 33554432; gain = 1024; symbols = 2 }
   -- and what refuses one, in its order: the last fault first, and each with those before it
   pub ticket-refused : refused_with 1 other_nominal ≡ refusal 28 []
   pub taps-refused : refused_with 1 (six_taps sheet.params) ≡ refusal 27 []
   pub state-refused : refused_with 1 (six_taps (period_from 33554433)) ≡ refusal 9 []
   pub delay-refused : refused_with 1 (six_taps (record (period_from 33554433) { delay = 23 })) ≡ refusal 29 []
+  -- a least period just above the state's, and one at it
   pub period-below : refused_of (plain_sheet (period_from 33554433)) ≡ refusal 9 []
   pub period-at : refused_of (plain_sheet (period_from 33554432)) ≡ nothing

@@ -10,7 +10,7 @@ use Rattle.state.specs.declared.Pair.{Pair}
 use Rattle.state.specs.declared.Frontend.{Frontend}
 use Rattle.state.specs.Check.{pairs_taken, block_faults}
 use Rattle.fixed.specs.Filter.{filtered}
-use Rattle.fixed.specs.Sample.{registers_found, symbol_of, joined, falls, next, made_by, emitted}
+use Rattle.fixed.specs.Sample.{found_in, symbol_of, joined, falls, next, made_by, emitted}
 use Rattle.fixed.specs.Block.{pairs_of, clips_of, accepted, block_of}
 use Rattle.fixed.proofs.Runs.{clips-append}
 
@@ -19,7 +19,7 @@ unfolding symbol_of
 symbol-clips s f =
     let p = s.params in
     let phase : ℕ = nat_abs f.registers.t_acc / 2 ^ 18 in
-    symbol-twelve p (gain_of (registers_found p f)) (registers_found p f).period f.samples phase (filtered s phase f.line f.head)
+    symbol-twelve p (gain_of (found_in p f)) (found_in p f).period f.samples phase (filtered s phase f.line f.head)
 
 made-clips : (s : Sheet) (f : Frontend) (x : Pair) → clips_of (made_by s f x) ≤ 12 * length (made_by s f x)
 unfolding made_by clips_of

@@ -6,7 +6,7 @@ use Rattle.arith.proofs.Both.{and_both}
 use Rattle.params.specs.declared.Params.{Params}
 use Rattle.registers.specs.Step.{can_make_symbol, after_symbol}
 use Rattle.state.specs.declared.Frontend.{Frontend}
-use Rattle.fixed.specs.Sample.{registers_found, with_symbol, falls}
+use Rattle.fixed.specs.Sample.{found_in, with_symbol, falls}
 use Rattle.state.specs.Check.{good_state}
 use Rattle.fixed.specs.OneStep.{OneStep}
 use Rattle.state.proofs.Going.{time, going}
@@ -19,5 +19,5 @@ can-make p f good soon room =
     (lt-ltb f.registers.symbols 18446744073709551615 (omega (arith, g.few, room)))
 
 pub one_step : OneStep
-unfolding after_symbol registers_found with_symbol
+unfolding after_symbol found_in with_symbol
 one_step s f good soon room = rw (can-make s.params f good soon room) refl

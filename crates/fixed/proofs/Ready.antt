@@ -12,7 +12,7 @@ use Rattle.state.specs.declared.Frontend.{Frontend}
 use Rattle.state.specs.Start.{ring_places}
 use Rattle.state.proofs.Going.{time, Going, going, good}
 use Rattle.fixed.specs.Queue.{oldest_due, oldest_errors}
-use Rattle.fixed.specs.Sample.{registers_found, joined, with_symbol, without_symbol, falls, symbol_of, next, made_by}
+use Rattle.fixed.specs.Sample.{found_in, joined, with_symbol, without_symbol, falls, symbol_of, next, made_by}
 use Rattle.fixed.specs.Inside.{Ready}
 use Rattle.fixed.proofs.States.{found-within, joined-going}
 use Rattle.fixed.proofs.OneStep.{one_step}
@@ -36,7 +36,7 @@ module _ {s : Sheet} {f : Frontend} (ready : Ready s f) where
   soon e = ltb-true (time f) 16777216 (sym (ap (λ (z : ℤ). lt_z z one) ready-going.whole) ∙ e)
 
   -- the step on the registers, as the code makes it
-  pub step_is : falls f ≡ true → after_symbol p f.registers (oldest_due p f) (oldest_errors f) ≡ record { registers = left (registers_found p f); made = true }
+  pub step_is : falls f ≡ true → after_symbol p f.registers (oldest_due p f) (oldest_errors f) ≡ record { registers = left (found_in p f); made = true }
   unfolding with_symbol
   step_is e = one_step s f ready.good e (omega (arith, ready.room))
 
@@ -44,17 +44,17 @@ module _ {s : Sheet} {f : Frontend} (ready : Ready s f) where
   abbrev pub due_errors : Option Pending
   due_errors = cond (oldest_due p f) (Some (oldest_errors f)) None
 
-  pub stepped : falls f ≡ true → after_symbol p f.registers (is_some due_errors) (errors_of due_errors) ≡ record { registers = left (registers_found p f); made = true }
+  pub stepped : falls f ≡ true → after_symbol p f.registers (is_some due_errors) (errors_of due_errors) ≡ record { registers = left (found_in p f); made = true }
   unfolding after_symbol found
   stepped e = go (oldest_due p f) refl
     where
       go : (b : Bool) → oldest_due p f ≡ b
-          → after_symbol p f.registers (is_some due_errors) (errors_of due_errors) ≡ record { registers = left (registers_found p f); made = true }
+          → after_symbol p f.registers (is_some due_errors) (errors_of due_errors) ≡ record { registers = left (found_in p f); made = true }
       go true d = simp d (rw d at (step_is e))
       go false d = simp d (rw d at (step_is e))
 
   -- the registers that it leaves have a gain of 16 bits
-  pub step-gain : (left (registers_found p f)).gain_acc ≤ 16777215
+  pub step-gain : (left (found_in p f)).gain_acc ≤ 16777215
   unfolding left
   step-gain = (found-within s accepted f ready-going).gain
 

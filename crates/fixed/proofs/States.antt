@@ -18,7 +18,7 @@ use Rattle.state.specs.Start.{ring_places, no_pending}
 use Rattle.state.proofs.Going.{time, minus-nat, Going}
 use Rattle.fixed.specs.Line.{next_head}
 use Rattle.fixed.specs.Queue.{oldest_due}
-use Rattle.fixed.specs.Sample.{registers_found, joined, with_symbol, without_symbol, falls, next, after}
+use Rattle.fixed.specs.Sample.{found_in, joined, with_symbol, without_symbol, falls, next, after}
 
 -- ---- the line's position
 
@@ -32,19 +32,19 @@ head-below taps head h = go (eqb head 0) refl
 
 -- ---- the errors that are due move the loop, and nothing else
 
-pub found-time : (p : Params) (f : Frontend) → (registers_found p f).t_acc ≡ f.registers.t_acc
-unfolding registers_found found corrected
+pub found-time : (p : Params) (f : Frontend) → (found_in p f).t_acc ≡ f.registers.t_acc
+unfolding found_in found corrected
 found-time p f = go (oldest_due p f) refl
   where
-    go : (b : Bool) → oldest_due p f ≡ b → (registers_found p f).t_acc ≡ f.registers.t_acc
+    go : (b : Bool) → oldest_due p f ≡ b → (found_in p f).t_acc ≡ f.registers.t_acc
     go true e = rw e
     go false e = rw e
 
-pub found-symbols : (p : Params) (f : Frontend) → (registers_found p f).symbols ≡ f.registers.symbols
-unfolding registers_found found corrected
+pub found-symbols : (p : Params) (f : Frontend) → (found_in p f).symbols ≡ f.registers.symbols
+unfolding found_in found corrected
 found-symbols p f = go (oldest_due p f) refl
   where
-    go : (b : Bool) → oldest_due p f ≡ b → (registers_found p f).symbols ≡ f.registers.symbols
+    go : (b : Bool) → oldest_due p f ≡ b → (found_in p f).symbols ≡ f.registers.symbols
     go true e = rw e
     go false e = rw e
 
@@ -82,8 +82,8 @@ module _ (s : Sheet) (a : Accepted s) where
       }
 
   -- the loop as a symbol finds it
-  pub found-within : (f : Frontend) → Going p f → Within p (loop_of (registers_found p f))
-  unfolding registers_found found
+  pub found-within : (f : Frontend) → Going p f → Within p (loop_of (found_in p f))
+  unfolding found_in found
   found-within f g = go (oldest_due p f) refl
     where
       r : Registers
@@ -92,7 +92,7 @@ module _ (s : Sheet) (a : Accepted s) where
       w : Pending
       w = get_or f.pending f.oldest no_pending
 
-      go : (b : Bool) → oldest_due p f ≡ b → Within p (loop_of (registers_found p f))
+      go : (b : Bool) → oldest_due p f ≡ b → Within p (loop_of (found_in p f))
       go true e =
           subst (λ (b : Bool). Within p (loop_of (cond b (corrected p r w) r))) (sym e)
           (subst (Within p) (sym (corrected-moves p r w)) (moved-within p a.periods a.fields (loop_of r) w))
@@ -102,10 +102,10 @@ module _ (s : Sheet) (a : Accepted s) where
   unfolding with_symbol left
   with-symbol-going f h g =
       let w = found-within f g in
-      let n : ℕ = time f + (registers_found p f).period in
-      let t : (registers_found p f).t_acc +ℤ pos (registers_found p f).period -ℤ one ≡ pos (n - 16777216) =
-      ap (λ (z : ℤ). z +ℤ pos (registers_found p f).period -ℤ one) (found-time p f ∙ g.whole) ∙ minus-nat n 16777216 (omega (arith, a.periods, w.low)) in
-      let m : nat_abs ((registers_found p f).t_acc +ℤ pos (registers_found p f).period -ℤ one) ≡ n - 16777216 = ap nat_abs t in
+      let n : ℕ = time f + (found_in p f).period in
+      let t : (found_in p f).t_acc +ℤ pos (found_in p f).period -ℤ one ≡ pos (n - 16777216) =
+      ap (λ (z : ℤ). z +ℤ pos (found_in p f).period -ℤ one) (found-time p f ∙ g.whole) ∙ minus-nat n 16777216 (omega (arith, a.periods, w.low)) in
+      let m : nat_abs ((found_in p f).t_acc +ℤ pos (found_in p f).period -ℤ one) ≡ n - 16777216 = ap nat_abs t in
       record {
         head = g.head;
         whole = t ∙ ap pos (sym m);
@@ -120,10 +120,10 @@ module _ (s : Sheet) (a : Accepted s) where
       leave : Bool
       leave = oldest_due p f
 
-      queue_long : cond leave f.waiting (f.waiting + 1) ≡ min ((registers_found p f).symbols + 1) p.delay
+      queue_long : cond leave f.waiting (f.waiting + 1) ≡ min ((found_in p f).symbols + 1) p.delay
       queue_long = go leave refl
         where
-          go : (b : Bool) → leave ≡ b → cond leave f.waiting (f.waiting + 1) ≡ min ((registers_found p f).symbols + 1) p.delay
+          go : (b : Bool) → leave ≡ b → cond leave f.waiting (f.waiting + 1) ≡ min ((found_in p f).symbols + 1) p.delay
           go true e = let c = eqb-true f.waiting p.delay e in rw e (omega (arith, g.waiting, found-symbols p f))
           go false e = let c = eqb-false f.waiting p.delay e in rw e (omega (arith, g.waiting, found-symbols p f))
 

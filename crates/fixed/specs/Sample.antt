@@ -36,8 +36,8 @@ joined s f x =
 -- ---- step 3 with a symbol
 
 -- The registers as the symbol finds them: where as many errors wait as the loop's delay, the oldest are applied first.
-unfoldable pub registers_found : Params → Frontend → Registers
-registers_found p f = found p f.registers (oldest_due p f) (oldest_errors f)
+unfoldable pub found_in : Params → Frontend → Registers
+found_in p f = found p f.registers (oldest_due p f) (oldest_errors f)
 
 -- The symbol that falls due in this state, once the sample has joined the line: its phase is the sixty-fourth of the sample that the time says.
 -- (RULES 3.5)
@@ -45,13 +45,13 @@ unfoldable pub symbol_of : Sheet → Frontend → Symbol
 symbol_of s f =
     let p : Params = s.params in
     let phase : ℕ = unsigned_abs f.registers.t_acc / 2 ^ 18 in
-    symbol_from p (gain_of (registers_found p f)) (registers_found p f).period f.samples phase (filtered s phase f.line f.head)
+    symbol_from p (gain_of (found_in p f)) (found_in p f).period f.samples phase (filtered s phase f.line f.head)
 
 -- The registers are as the symbol leaves them, and its errors wait.
 unfoldable pub with_symbol : Sheet → Frontend → Frontend
 with_symbol s f = record {
   params = f.params;
-  registers = left (registers_found s.params f);
+  registers = left (found_in s.params f);
   line = f.line;
   head = f.head;
   pending = queued_errors f (record { e = (symbol_of s f).e; err = (symbol_of s f).err });

@@ -75,7 +75,8 @@ impl Running {
         requires accepted { judged sheet.now ≡ nothing }
         requires good { good_state sheet.now.params (frontend_of sheet.now.params self.old rings.old) ≡ true }
         requires room { (20 * (length values.now / 2) ≤ length out.old) × (self.old.samples + length values.now / 2 ≤ 9223372036854775807) }
-        ensures state { frontend_of sheet.now.params self.new rings.new ≡ after sheet.now (frontend_of sheet.now.params self.old rings.old) (pairs_of values.now) }
+        ensures state { frontend_of sheet.now.params self.new rings.new
+            ≡ after sheet.now (frontend_of sheet.now.params self.old rings.old) (pairs_of values.now) }
         ensures written { Writes (emitted sheet.now (frontend_of sheet.now.params self.old rings.old) (pairs_of values.now))
             out.old out.new result.count result.clips }
     {

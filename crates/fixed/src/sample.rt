@@ -20,7 +20,7 @@ use registers::{Pending, Registers};
 use state::RING_PLACES;
 use symbol::{Sums, Symbol};
 
-// The state's numbers, but for the sheet's. Clauses put a state together from these, the rings and the sheet (`frontend_of`): no Model of one struct is a state.
+// The state's numbers, but for the sheet's. Clauses put a state together from these, the rings and the sheet (`frontend_of`): no Model of one struct is one.
 // That the head is below the taps is asked where it is used: the taps are the sheet's, so no invariant of this struct can speak of them.
 #[derive(Clone, Copy)]
 pub(crate) struct Running {

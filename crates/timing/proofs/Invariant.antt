@@ -23,7 +23,7 @@ use Rattle.state.specs.declared.Frontend.{Frontend}
 use Rattle.symbol.specs.declared.Symbol.{Symbol}
 use Rattle.state.specs.Start.{ring_places, no_pending, fresh}
 use Rattle.registers.specs.Step.{is_due, one, found, left}
-use Rattle.fixed.specs.Sample.{registers_found, symbol_of, joined, with_symbol, without_symbol, falls, next, made_by}
+use Rattle.fixed.specs.Sample.{found_in, symbol_of, joined, with_symbol, without_symbol, falls, next, made_by}
 use Rattle.symbol.specs.Make.{symbol_from}
 use Rattle.retune.specs.Retune.{retuned}
 use Rattle.state.proofs.Going.{time, minus-nat, Going}
@@ -191,8 +191,8 @@ module _ (p₀ : Params) (P : ℕ → Params) where
     -- ---- with one
 
     -- the loop as a symbol finds it: after the errors of all but the newest before it, one fewer than the delay
-    found-loop : (f : Frontend) (S : List Symbol) → Inv p f S → loop_of (registers_found p f) ≡ loop_at (fields_of S ++ (p ∷ [])) S
-    unfolding registers_found found
+    found-loop : (f : Frontend) (S : List Symbol) → Inv p f S → loop_of (found_in p f) ≡ loop_at (fields_of S ++ (p ∷ [])) S
+    unfolding found_in found
     found-loop f S i = go (is_due p.delay f.waiting) refl
       where
         n : ℕ
@@ -205,7 +205,7 @@ module _ (p₀ : Params) (P : ℕ → Params) where
         before : List Params
         before = drop delay (fields_of S)
 
-        go : (b : Bool) → is_due p.delay f.waiting ≡ b → loop_of (registers_found p f) ≡ loop_at (fields_of S ++ (p ∷ [])) S
+        go : (b : Bool) → is_due p.delay f.waiting ≡ b → loop_of (found_in p f) ≡ loop_at (fields_of S ++ (p ∷ [])) S
         go true e =
             let c : f.waiting ≡ delay = eqb-true f.waiting p.delay e ∙ i.same-delay in
             let q : oldest ≡ get_or (errors S) n no_pending = rw i.made.oldest (i.made.queue n (omega (arith, a.fields)) (omega arith)) in
@@ -228,11 +228,11 @@ module _ (p₀ : Params) (P : ℕ → Params) where
             (omega (arith, length-append (fields_of S) (p ∷ []), length_fields S, i.same-delay)) in
             rw (e, i.made.loop, none, still)
 
-    found-within : (f : Frontend) (S : List Symbol) → Inv p f S → Within p (loop_of (registers_found p f))
-    unfolding registers_found found
+    found-within : (f : Frontend) (S : List Symbol) → Inv p f S → Within p (loop_of (found_in p f))
+    unfolding found_in found
     found-within f S i = go (is_due p.delay f.waiting) refl
       where
-        go : (b : Bool) → is_due p.delay f.waiting ≡ b → Within p (loop_of (registers_found p f))
+        go : (b : Bool) → is_due p.delay f.waiting ≡ b → Within p (loop_of (found_in p f))
         go true e = rw (e, corrected-moves p f.registers (get_or f.pending f.oldest no_pending)) (moved-within p a.periods a.fields _ _)
         go false e = rw e i.within
 
@@ -245,7 +245,7 @@ module _ (p₀ : Params) (P : ℕ → Params) where
     unfolding symbol_of symbol_from
     symbol-placed f S e i h =
         let w = found-within f S i in
-        let l : loop_of (registers_found p f) ≡ loop_at (fields_of (S ++ (symbol_of s f ∷ []))) S =
+        let l : loop_of (found_in p f) ≡ loop_at (fields_of (S ++ (symbol_of s f ∷ []))) S =
         found-loop f S i ∙ ap (λ (ps : List Params). loop_at ps S) (sym (own-fields f S e)) in
         record {
           place = omega arith;
@@ -300,24 +300,24 @@ module _ (p₀ : Params) (P : ℕ → Params) where
         → cond (is_due p.delay c) ((o + 1) % ring_places) o ≡ (n + 1 - delay) % ring_places
     oldest-next n c o same h l = grind arith
 
-    total-snoc : (f : Frontend) (S : List Symbol) → total (S ++ (symbol_of s f ∷ [])) ≡ total S + (registers_found p f).period
+    total-snoc : (f : Frontend) (S : List Symbol) → total (S ++ (symbol_of s f ∷ [])) ≡ total S + (found_in p f).period
     unfolding total symbol_of symbol_from
     total-snoc f S = omega (arith, total-append S (symbol_of s f ∷ []))
 
     -- the time after a symbol
     time-on : (f : Frontend) (S : List Symbol) → Inv p f S
-        → (registers_found p f).t_acc +ℤ pos (registers_found p f).period -ℤ one ≡ pos (time f + (registers_found p f).period - 16777216)
+        → (found_in p f).t_acc +ℤ pos (found_in p f).period -ℤ one ≡ pos (time f + (found_in p f).period - 16777216)
     time-on f S i =
         let w = found-within f S i in
-        ap (λ (z : ℤ). z +ℤ pos (registers_found p f).period -ℤ one) (found-time p f ∙ i.whole)
-        ∙ minus-nat (time f + (registers_found p f).period) 16777216 (omega (arith, a.periods))
+        ap (λ (z : ℤ). z +ℤ pos (found_in p f).period -ℤ one) (found-time p f ∙ i.whole)
+        ∙ minus-nat (time f + (found_in p f).period) 16777216 (omega (arith, a.periods))
 
     with-symbol-inv : (f : Frontend) (S : List Symbol) → P f.samples ≡ p → Inv p f S → time f < 16777216 → Inv p (with_symbol s f) (S ++ (symbol_of s f ∷ []))
     unfolding with_symbol left errors
     with-symbol-inv f S e i h =
         let m = i.made in
         let y : Symbol = symbol_of s f in
-        let r : Registers = registers_found p f in
+        let r : Registers = found_in p f in
         let len : length (S ++ (y ∷ [])) ≡ length S + 1 = length-append S (y ∷ []) in
         let ps : List Params = fields_of S ++ (p ∷ []) in
         let many : length ps ≡ length S + 1 = omega (arith, length-append (fields_of S) (p ∷ []), length_fields S) in

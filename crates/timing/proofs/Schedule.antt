@@ -12,7 +12,7 @@ use Rattle.state.specs.declared.Pair.{Pair}
 use Rattle.state.specs.declared.Frontend.{Frontend}
 use Rattle.symbol.specs.declared.Symbol.{Symbol}
 use Rattle.retune.specs.Retune.{retuned}
-use Rattle.fixed.specs.Sample.{registers_found, symbol_of, joined, with_symbol, without_symbol, falls, next, made_by, after, emitted}
+use Rattle.fixed.specs.Sample.{found_in, symbol_of, joined, with_symbol, without_symbol, falls, next, made_by, after, emitted}
 use Rattle.fixed.specs.Block.{block_of}
 use Rattle.fixed.proofs.Runs.{next-samples}
 use Rattle.timing.specs.Lists.{Call, block, commit, state_by, taken_by, state_after, taken}
@@ -36,11 +36,11 @@ given-long f (commit s ticket) = refl
 
 module _ (p : Params) where
   retuned-made : (s : Sheet) (f : Frontend) (x : Pair) → made_by s (retuned p f) x ≡ made_by s f x
-  unfolding made_by retuned joined symbol_of registers_found
+  unfolding made_by retuned joined symbol_of found_in
   retuned-made s f x = refl
 
   retuned-next : (s : Sheet) (f : Frontend) (x : Pair) → next s (retuned p f) x ≡ retuned p (next s f x)
-  unfolding next retuned joined with_symbol without_symbol symbol_of registers_found
+  unfolding next retuned joined with_symbol without_symbol symbol_of found_in
   retuned-next s f x = go (falls f) refl
     where
       go : (b : Bool) → falls f ≡ b → next s (retuned p f) x ≡ retuned p (next s f x)

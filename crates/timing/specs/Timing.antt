@@ -109,7 +109,8 @@ pub record Timing (s : Sheet) : Type 0 where
   pub rest : (cs : List Call) → Rest s cs
   -- errors act as many symbols later as the delay says and never sooner: the two lists' samples and their commits agree up to symbol i's own sample in the
   -- first, whatever samples come later; what is asked of later commits stands in `Delayed`
-  pub delayed : (cs ds : List Call) (i n : ℕ) → KeepsToItsSheets s cs → KeepsToItsSheets s ds → i < symbol_count s cs → sample_at (places_written s cs) i ≡ pos n
+  pub delayed : (cs ds : List Call) (i n : ℕ) → KeepsToItsSheets s cs → KeepsToItsSheets s ds
+      → i < symbol_count s cs → sample_at (places_written s cs) i ≡ pos n
       → AgreeUpTo n (samples_of s cs) (samples_of s ds) → up_to n (commits_of s cs) ≡ up_to n (commits_of s ds) → Delayed s cs ds i
   -- how the samples are cut into blocks, and what was refused between them, changes nothing
   pub cuts : (cs ds : List Call) → Alike s cs ds → samples_of s cs ≡ samples_of s ds → SameRun s cs ds

@@ -14,7 +14,7 @@ use Rattle.symbol.specs.Make.{symbol_from}
 use Rattle.state.specs.declared.Frontend.{Frontend}
 use Rattle.state.specs.Start.{ring_places}
 use Rattle.fixed.specs.Filter.{filtered}
-use Rattle.fixed.specs.Sample.{registers_found, falls, symbol_of, with_symbol}
+use Rattle.fixed.specs.Sample.{found_in, falls, symbol_of, with_symbol}
 use Rattle.fixed.specs.Inside.{Ready}
 use Rattle.fixed.proofs.Ready.{ready-going, ring-holds, soon, stepped, step-gain}
 use Rattle.fixed.proofs.sample.Running.make_symbol.Goals as goal
@@ -41,12 +41,12 @@ module _ {s : Sheet} {f : Frontend} (ready : Ready s f) (falling : falls f ≡ t
   phase-fits = subst (λ (z : ℤ). T (non_neg z) × Fits w64 (nat_abs z)) (sym time-is) (tt, record { fits = omega (arith, soon ready falling) })
 
   -- a symbol of the gain and the period that the registers then have is the definition's
-  symbol-made : {r : Registers} {gain : ℕ} {sums : List Sums} → r ≡ left (registers_found s.params f) → gain ≡ r.gain_acc / 256 % 65536
+  symbol-made : {r : Registers} {gain : ℕ} {sums : List Sums} → r ≡ left (found_in s.params f) → gain ≡ r.gain_acc / 256 % 65536
       → sums ≡ filtered s (nat_abs time) f.line f.head
       → symbol_from s.params gain r.period f.samples (nat_abs time) sums ≡ symbol_of s f
   unfolding symbol_of left
   symbol-made {r} e g sums =
-      let small : (left (registers_found s.params f)).gain_acc / 256 % 65536 ≡ (left (registers_found s.params f)).gain_acc / 256 = omega (arith, step-gain ready) in
+      let small : (left (found_in s.params f)).gain_acc / 256 % 65536 ≡ (left (found_in s.params f)).gain_acc / 256 = omega (arith, step-gain ready) in
       let gain = g ∙ ap (λ (r : Registers). r.gain_acc / 256 % 65536) e ∙ small in
       let of_rows = sums ∙ ap (λ (n : ℕ). filtered s n f.line f.head) phase-at in
       λ t. symbol_from s.params (gain t) (e t).period f.samples (phase-at t) (of_rows t)
