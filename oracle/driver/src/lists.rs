@@ -154,7 +154,7 @@ impl List {
         let all = other.accepted.len() == self.accepted.len();
         holds(all || made > end + 1, told)?;
 
-        // And without the commits behind the sample of a later symbol. Numbers of its own leave the next list as it is without this.
+        // And without the commits behind the sample of a later symbol. It draws numbers of its own, so that no other list depends on it.
         let mut r = Random::new(symbols[i][PERIOD] as u64);
         let k = (i + r.below((end - i) as u64 + 1) as usize).min(symbols.len() - 1);
         let told = || format!("4, with other pairs behind symbol {i} and no commit behind {k}");
