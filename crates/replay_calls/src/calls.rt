@@ -140,10 +140,11 @@ impl Calls {
     // Row 10: a block.
     fn is_processed(&mut self, numbers: &[i64]) -> bool {
         let out = &mut self.out[..];
-        for (place, number) in out.iter_mut().enumerate() {
+        self.places = (rows::at(numbers, 0).cast_unsigned() as usize).min(out.len());
+        // Only the places that the row names: the room has hundreds of times as many, and nothing is read behind them.
+        for (place, number) in out[..self.places].iter_mut().enumerate() {
             *number = pattern(place);
         }
-        self.places = (rows::at(numbers, 0).cast_unsigned() as usize).min(out.len());
         let sheet = self.banks.sheet(self.params);
         let block = fixed::process(
             &mut self.state,
