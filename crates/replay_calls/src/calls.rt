@@ -133,7 +133,7 @@ impl Calls {
     // Row 8: starting. Where that is refused, zeros are left.
     fn is_started(&mut self, numbers: &[i64]) -> bool {
         let started = Frontend::new(&self.sheet());
-        self.state = started.unwrap_or(Frontend::fresh(fields::none()));
+        self.state = started.unwrap_or_default();
         answer::is(&started, numbers)
     }
 
