@@ -15,6 +15,7 @@ ghost use Rattle.places.specs.Refusal.{places_refusal};
 ghost use Rattle.places.specs.States.{slices, state_fits, state_of};
 ghost use Rattle.calls.specs.Refusal.{call_number};
 ghost use Rattle.calls.specs.Calls.{judge_number, start_answer, state_number, block_answer, read_answer, ask_answer, commit_answer, offset_answer, design_answer};
+ghost use Rattle.calls.specs.Source.{source, judge_source, start_source, block_source, read_source, ask_source, commit_source, offset_source, design_source};
 
 pub use claims::designs_cross;
 use params::Sheet;
@@ -37,7 +38,8 @@ fn put(numbers: &[i64], answer: &mut [i64]) -> Result<(), PlacesError>
 // Judging (RULES 1.4).
 #[tactic(auto, using(crate::proofs::Numbers::numbered), unfolding(crate::specs::Calls::judge_number))]
 pub fn judge(sheet: &[i64], h: &[i32], g: &[i32], k: &[i32]) -> Result<(), CallError>
-    ensures { answer_number call_number result ≡ judge_number sheet.now h.now g.now k.now }
+    ensures answers { answer_number call_number result ≡ judge_number sheet.now h.now g.now k.now }
+    ensures error { source result ≡ judge_source sheet.now h.now g.now k.now }
 {
     let params = places::read_sheet(sheet)?;
     let sheet = Sheet { params, h, g, k };
@@ -59,6 +61,7 @@ pub fn start(
     ensures answers { record { number = answer_number call_number result; state = slices state.new line.new errors.new }
         ≡ start_answer sheet.now h.now g.now k.now
         (slices state.old line.old errors.old) }
+    ensures error { source result ≡ start_source sheet.now h.now g.now k.now (slices state.old line.old errors.old) }
     ensures fits { IfOk result (λ done. state_fits (slices state.new line.new errors.new) ≡ true) }
 {
     let params = places::read_sheet(sheet)?;
@@ -90,6 +93,8 @@ pub fn block(
       answer = answer.new;
     }
         ≡ block_answer sheet.now h.now g.now k.now
+        (slices state.old line.old errors.old) values.now out.old answer.old }
+    ensures error { source result ≡ block_source sheet.now h.now g.now k.now
         (slices state.old line.old errors.old) values.now out.old answer.old }
     ensures fits { IfOk result (λ done. state_fits (slices state.new line.new errors.new) ≡ true) }
 {
@@ -128,9 +133,10 @@ pub fn read(
     errors: &[i32],
     answer: &mut [i64],
 ) -> Result<(), CallError>
-    ensures { record { number = answer_number call_number result; places = answer.new }
+    ensures answers { record { number = answer_number call_number result; places = answer.new }
         ≡ read_answer sheet.now h.now g.now k.now
         (slices state.now line.now errors.now) answer.old }
+    ensures error { source result ≡ read_source sheet.now h.now g.now k.now (slices state.now line.now errors.now) answer.old }
 {
     let params = places::read_sheet(sheet)?;
     let lent = Slices {
@@ -175,9 +181,10 @@ pub fn ask(
     errors: &[i32],
     answer: &mut [i64],
 ) -> Result<(), CallError>
-    ensures { record { number = answer_number call_number result; places = answer.new }
+    ensures answers { record { number = answer_number call_number result; places = answer.new }
         ≡ ask_answer sheet.now h.now g.now k.now
         (slices state.now line.now errors.now) answer.old }
+    ensures error { source result ≡ ask_source sheet.now h.now g.now k.now (slices state.now line.now errors.now) answer.old }
 {
     let params = places::read_sheet(sheet)?;
     let sheet = Sheet { params, h, g, k };
@@ -207,6 +214,7 @@ pub fn commit(
     ensures answers { record { number = answer_number call_number result; places = state.new }
         ≡ commit_answer ticket sheet.now h.now g.now k.now
         (slices state.old line.now errors.now) }
+    ensures error { source result ≡ commit_source ticket sheet.now h.now g.now k.now (slices state.old line.now errors.now) }
     ensures fits { IfOk result (λ done. state_fits (slices state.new line.now errors.now) ≡ true) }
 {
     let params = places::read_sheet(sheet)?;
@@ -233,8 +241,9 @@ pub fn offset(
     period: u32,
     answer: &mut [i64],
 ) -> Result<(), CallError>
-    ensures { record { number = answer_number call_number result; places = answer.new }
+    ensures answers { record { number = answer_number call_number result; places = answer.new }
         ≡ offset_answer sheet.now h.now g.now k.now period answer.old }
+    ensures error { source result ≡ offset_source sheet.now h.now g.now k.now period answer.old }
 {
     let params = places::read_sheet(sheet)?;
     let parts = offset::of_period(&Sheet { params, h, g, k }, period)?;
@@ -252,8 +261,9 @@ pub fn design(
     k: &[i32],
     sheet: &mut [i64],
 ) -> Result<(), CallError>
-    ensures { record { number = answer_number call_number result; places = sheet.new }
+    ensures answers { record { number = answer_number call_number result; places = sheet.new }
         ≡ design_answer rates.now fields.now h.now g.now k.now sheet.old }
+    ensures error { source result ≡ design_source rates.now fields.now h.now g.now k.now sheet.old }
 {
     let (design, gains) = places::read_design(rates, fields)?;
     let params = design.params(gains, h, g, k)?;
