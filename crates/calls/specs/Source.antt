@@ -58,11 +58,11 @@ first_designing (accepted p) behind = behind
 first_designing (refused r) behind = of_design r
 
 -- Slices that are no state: what judging refuses of the sheet, and else 9 of the slices.
-unfoldable pub state_source : Sheet → Slices → Source → Source
+abbrev pub state_source : Sheet → Slices → Source → Source
 state_source s state behind = cond (state_fits state) behind (first_refusing of_params (judged s) (of_places 9))
 
 -- Too few places for what is answered.
-unfoldable pub short_source : ℕ → List ℤ → Source
+abbrev pub short_source : ℕ → List ℤ → Source
 short_source most places = first_numbered of_places (cond (leb most (length places)) 0 11) nobody
 
 unfoldable pub judge_source : List ℤ → List ℤ → List ℤ → List ℤ → Source

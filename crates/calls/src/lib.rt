@@ -15,7 +15,8 @@ ghost use Rattle.places.specs.Refusal.{places_refusal};
 ghost use Rattle.places.specs.States.{slices, state_fits, state_of};
 ghost use Rattle.calls.specs.Refusal.{call_number};
 ghost use Rattle.calls.specs.Calls.{judge_number, start_answer, state_number, block_answer, read_answer, ask_answer, commit_answer, offset_answer, design_answer};
-ghost use Rattle.calls.specs.Source.{source, judge_source, start_source, block_source, read_source, ask_source, commit_source, offset_source, design_source};
+ghost use Rattle.calls.specs.Source.{source, nobody, state_source, judge_source, start_source, block_source, read_source};
+ghost use Rattle.calls.specs.Source.{ask_source, commit_source, offset_source, design_source};
 
 pub use claims::designs_cross;
 use params::Sheet;
@@ -36,7 +37,7 @@ fn put(numbers: &[i64], answer: &mut [i64]) -> Result<(), PlacesError>
 }
 
 // Judging (RULES 1.4).
-#[tactic(auto, using(crate::proofs::Numbers::numbered), unfolding(crate::specs::Calls::judge_number))]
+#[tactic(auto, using(crate::proofs::Numbers::numbered), unfolding(crate::specs::Calls::judge_number, crate::specs::Source::judge_source))]
 pub fn judge(sheet: &[i64], h: &[i32], g: &[i32], k: &[i32]) -> Result<(), CallError>
     ensures answers { answer_number call_number result ≡ judge_number sheet.now h.now g.now k.now }
     ensures error { source result ≡ judge_source sheet.now h.now g.now k.now }
@@ -48,7 +49,7 @@ pub fn judge(sheet: &[i64], h: &[i32], g: &[i32], k: &[i32]) -> Result<(), CallE
 }
 
 // Writes the fresh state of a sheet (RULES 3.1). What it leaves in the slices is a state (8.3), which the next call reads.
-#[tactic(auto, using(crate::proofs::Answers::started), unfolding(crate::specs::Calls::start_answer, places::specs::States::state_written))]
+#[tactic(auto, using(crate::proofs::Answers::started), unfolding(crate::specs::Calls::start_answer, crate::specs::Source::start_source))]
 pub fn start(
     sheet: &[i64],
     h: &[i32],
@@ -73,7 +74,7 @@ pub fn start(
 // Takes a block of samples, I before Q, from the state on, as many of them as the output has places for; writes 20 places a symbol, the state after it, and
 // how many symbols it wrote, pairs it took and clips it counted to the first three of four places (RULES 4). What it leaves in the state's slices is a state
 // (8.3), which the next call reads.
-#[tactic(auto, using(crate::proofs::Numbers::numbered, crate::proofs::Fitting::block_counts), unfolding(crate::specs::Calls::block_answer))]
+#[tactic(auto, using(crate::proofs::Fitting::block_counts), unfolding(crate::specs::Calls::block_answer, crate::specs::Source::block_source))]
 pub fn block(
     sheet: &[i64],
     h: &[i32],
@@ -122,7 +123,7 @@ pub fn block(
 }
 
 // Writes period, gain and symbols of a state to three places (RULES 4.3).
-#[tactic(auto, using(crate::proofs::Numbers::numbered, crate::proofs::Fitting::read_small), unfolding(crate::specs::Calls::read_answer))]
+#[tactic(auto, using(crate::proofs::Numbers::numbered, crate::proofs::Fitting::read_small), unfolding(crate::specs::Calls::read_answer, crate::specs::Source::read_source))]
 pub fn read(
     sheet: &[i64],
     h: &[i32],
@@ -160,6 +161,7 @@ pub fn read(
 #[tactic(auto, using(crate::proofs::Numbers::numbered), unfolding(crate::specs::Calls::state_number, places::specs::States::read_state))]
 fn lent_state(sheet: &Sheet<'_>, lent: &Slices<'_>) -> Result<Frontend, CallError>
     ensures refused { answer_number call_number result ≡ state_number sheet.now lent.now }
+    ensures error { source result ≡ state_source sheet.now lent.now nobody }
     ensures read { IfOk result (λ f. f ≡ state_of lent.now) }
 {
     if !lent.is_state() {
@@ -170,7 +172,7 @@ fn lent_state(sheet: &Sheet<'_>, lent: &Slices<'_>) -> Result<Frontend, CallErro
 }
 
 // Asks whether the sheet may be put into a state, and writes the ticket to one place (RULES 4.4).
-#[tactic(auto, using(crate::proofs::Numbers::numbered, crate::proofs::Fitting::ticket_small), unfolding(crate::specs::Calls::ask_answer))]
+#[tactic(auto, using(crate::proofs::Answers::asked), unfolding(crate::specs::Calls::ask_answer, crate::specs::Source::ask_source))]
 pub fn ask(
     sheet: &[i64],
     h: &[i32],
@@ -200,7 +202,7 @@ pub fn ask(
 }
 
 // Puts the sheet into a state: writes it to the held sheet's places, and leaves all others (RULES 4.5). The slices are a state (8.3) afterwards too.
-#[tactic(auto, using(crate::proofs::Numbers::numbered), unfolding(crate::specs::Calls::commit_answer))]
+#[tactic(auto, using(crate::proofs::Numbers::numbered), unfolding(crate::specs::Calls::commit_answer, crate::specs::Source::commit_source))]
 pub fn commit(
     ticket: u64,
     sheet: &[i64],
@@ -232,7 +234,7 @@ pub fn commit(
 }
 
 // Writes the offset of a period to one place (RULES 6.1).
-#[tactic(auto, using(crate::proofs::Numbers::numbered), unfolding(crate::specs::Calls::offset_answer))]
+#[tactic(auto, using(crate::proofs::Numbers::numbered), unfolding(crate::specs::Calls::offset_answer, crate::specs::Source::offset_source))]
 pub fn offset(
     sheet: &[i64],
     h: &[i32],
@@ -252,7 +254,7 @@ pub fn offset(
 }
 
 // Writes the sheet of a design to the first 18 places (RULES 6.4). The design comes as five rates and eight fields.
-#[tactic(auto, using(crate::proofs::Numbers::numbered, crate::proofs::Answers::design_made), unfolding(crate::specs::Calls::design_answer))]
+#[tactic(auto, using(crate::proofs::Answers::designed), unfolding(crate::specs::Calls::design_answer, crate::specs::Source::design_source))]
 pub fn design(
     rates: &[f64],
     fields: &[i64],

@@ -9,20 +9,29 @@ use Rattle.fixed.specs.Block.{Block, block_of}
 use Rattle.places.specs.Refusal.{places_refusal}
 use Rattle.places.specs.States.{slices, read_state, numbers_of, StateAnswer}
 use Rattle.calls.specs.Calls.{sheet_at}
-use Rattle.calls.proofs.Answers.{block_refused, block_short, block_stopped, block_made, block_written}
+use Rattle.calls.specs.Source.{block_source}
+use Rattle.calls.proofs.Answers.{block-fault, block_refused, block_short, block_stopped, block_made, block_written}
 use Rattle.calls.proofs.Fitting.{taken_small, count_few, clips_few}
 use Rattle.calls.proofs.Numbers.{numbered}
 use Rattle.calls.proofs.block.Goals.{After-errors-1}
 use Rattle.calls.proofs.block.Goals as goal
 
-pub returns-in_err-check_block : goal.returns-in_err-check_block
-returns-in_err-check_block c = grind (arith, block_refused)
+pub returns-in_err-check_block-clause-answers : goal.returns-in_err-check_block-clause-answers
+returns-in_err-check_block-clause-answers c = grind (arith, block_refused)
 
-pub returns-then-answer-lt4 : goal.returns-then-answer-lt4
-returns-then-answer-lt4 c = grind (arith, block_short)
+pub returns-then-answer-lt4-clause-answers : goal.returns-then-answer-lt4-clause-answers
+returns-then-answer-lt4-clause-answers c = grind (arith, block_short)
 
-pub returns-in_err-done : goal.returns-in_err-done
-returns-in_err-done c =
+pub returns-in_err-check_block-clause-error : goal.returns-in_err-check_block-clause-error
+unfolding block_source
+returns-in_err-check_block-clause-error c = grind (arith, numbered, block-fault)
+
+pub returns-then-answer-lt4-clause-error : goal.returns-then-answer-lt4-clause-error
+unfolding block_source
+returns-then-answer-lt4-clause-error c = grind (arith, numbered, block-fault)
+
+pub returns-in_err-done-clause-answers : goal.returns-in_err-done-clause-answers
+returns-in_err-done-clause-answers c =
     let a = c.args in
     let told = c.in_err-done.ensures ∙ (λ i. block_of (sheet_of (c.in_ok-params.ensures.read i) a.h.now a.g.now a.k.now) (c.read-f.ensures i) a.values.now a.out.now) in
     let stopped = block_stopped _ _ _ _ (slices a.state.now a.line.now a.errors.now) _ _ a.answer.now c.in_ok-params.ensures.refused _ _ _ told in
@@ -48,7 +57,7 @@ left c =
 pub returns-in_err-write_state : goal.returns-in_err-write_state
 returns-in_err-write_state c =
     let written = left (goal.at.returns-in_err-write_state c).After-errors-1 in
-    grind (arith, numbered, written)
+    absurd (grind (arith, numbered, written))
 
 pub returns-clause-answers : goal.returns-clause-answers
 returns-clause-answers c =
@@ -66,5 +75,4 @@ returns-clause-answers c =
     to_z_pos w64 (omega (arith, ap (λ (b : Block). b.count) block, count_few s f a.values.now a.out.now)) in
     let clips : to_z w64 done.clips ≡ pos done.clips =
     to_z_pos w64 (omega (arith, ap (λ (b : Block). b.clips) block, clips_few s f a.values.now a.out.now)) in
-    let put = rw (count, taken, clips) at c.put.ensures in
-    grind (arith, made, written, put)
+    grind (arith, made, written, taken, count, clips)
