@@ -31,7 +31,7 @@ use Rattle.places.specs.States.{Slices, are_long, read_state, numbers_of, has_pl
 use Rattle.calls.specs.Calls.{sheet_at, state_number, BlockAnswer, block_answer, read_answer, design_answer}
 use Rattle.calls.proofs.Numbers.{numbered}
 use Rattle.calls.proofs.NoState.{reading-number, block-number, state-read, state-fits}
-use Rattle.calls.proofs.Fitting.{started-placed, ticket_small, left, untouched}
+use Rattle.calls.proofs.Fitting.{started-placed, ticket_small, left, untouched, read_small, taken_small, count_few, clips_few}
 use Rattle.places.proofs.Readable.{state-long}
 
 -- ---- numbers of refusals
@@ -64,7 +64,8 @@ pub ruleset asked = (numbered, ticket_small)
 -- ---- reading and a block
 
 -- a block hands on its first fault, with all that it carries
-pub block-fault : (s : Sheet) (f : Frontend) (values out : List ℤ) → (block_of s f values out).refused ≡ first_of (block_faults s f (length values) (length out))
+pub block-fault : (s : Sheet) (f : Frontend) (values out : List ℤ)
+    → (block_of s f values out).refused ≡ first_of (block_faults s f (length values) (length out))
 unfolding block_of run
 block-fault s f values out = go (eqb (first_of (block_faults s f (length values) (length out))).number 0) refl
   where
@@ -74,7 +75,6 @@ block-fault s f values out = go (eqb (first_of (block_faults s f (length values)
         let none : (block_of s f values out).refused.number ≡ 0 = number-first s f values out ∙ eqb-true _ 0 e in
         ap (λ (b : Block). b.refused) (ran s f values out none) ∙ sym (none_first _ (no-faults s f values out none))
     go false e = rw e refl
-
 
 -- what is answered of the state that is read of any slices decides: of slices that are none it is 9, as of the slices themselves
 module _ (l h g k : List ℤ) (state : Slices) where
@@ -172,6 +172,11 @@ module _ (l h g k : List ℤ) (state : Slices) where
       let long : are_long state ≡ true = state-long state (state-fits s state fits.0) in
       let placed : has_places f ≡ true = ap (λ (b : Block). has_places b.state) told ∙ (left s (read_state state) values out none).placed in
       rw (long, placed) refl
+
+-- what numbers are read and counted, and who refuses a block
+pub ruleset reads = (numbered, read_small)
+
+pub ruleset blocks = (numbered, taken_small, count_few, clips_few, block-fault, block_short)
 
 -- ---- a design
 

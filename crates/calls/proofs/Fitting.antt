@@ -32,7 +32,6 @@ use Rattle.fixed.proofs.Clips.{block-clips}
 use Rattle.fixed.proofs.Refused.{number-first, no-faults, ran}
 use Rattle.places.specs.States.{Slices, state_fits, registers_at, state_of, read_state, has_places}
 use Rattle.calls.specs.Calls.{state_number}
-use Rattle.calls.proofs.Numbers.{numbered}
 use Rattle.calls.proofs.NoState.{state-read}
 use Rattle.places.proofs.Placed.{has-places}
 use Rattle.places.proofs.Readable.{are_state, first_at}
@@ -150,6 +149,3 @@ module _ (s : Sheet) (f : Frontend) (values out : List ℤ) where
 
   pub clips_few : (block_of s f values out).clips ≤ length out
   clips_few = small.clipped
-
--- what no count of a block is above, and what no refusal's number is below
-pub ruleset block_counts = (numbered, taken_small, count_few, clips_few)

@@ -74,7 +74,7 @@ pub fn start(
 // Takes a block of samples, I before Q, from the state on, as many of them as the output has places for; writes 20 places a symbol, the state after it, and
 // how many symbols it wrote, pairs it took and clips it counted to the first three of four places (RULES 4). What it leaves in the state's slices is a state
 // (8.3), which the next call reads.
-#[tactic(auto, using(crate::proofs::Fitting::block_counts), unfolding(crate::specs::Calls::block_answer, crate::specs::Source::block_source))]
+#[tactic(auto, using(crate::proofs::Answers::blocks), unfolding(crate::specs::Calls::block_answer, crate::specs::Source::block_source))]
 pub fn block(
     sheet: &[i64],
     h: &[i32],
@@ -123,7 +123,7 @@ pub fn block(
 }
 
 // Writes period, gain and symbols of a state to three places (RULES 4.3).
-#[tactic(auto, using(crate::proofs::Numbers::numbered, crate::proofs::Fitting::read_small), unfolding(crate::specs::Calls::read_answer, crate::specs::Source::read_source))]
+#[tactic(auto, using(crate::proofs::Answers::reads), unfolding(crate::specs::Calls::read_answer, crate::specs::Source::read_source))]
 pub fn read(
     sheet: &[i64],
     h: &[i32],

@@ -9,8 +9,7 @@ use Rattle.fixed.specs.Block.{Block, block_of}
 use Rattle.places.specs.Refusal.{places_refusal}
 use Rattle.places.specs.States.{slices, read_state, numbers_of, StateAnswer}
 use Rattle.calls.specs.Calls.{sheet_at}
-use Rattle.calls.specs.Source.{block_source}
-use Rattle.calls.proofs.Answers.{block-fault, block_refused, block_short, block_stopped, block_made, block_written}
+use Rattle.calls.proofs.Answers.{block_refused, block_stopped, block_made, block_written}
 use Rattle.calls.proofs.Fitting.{taken_small, count_few, clips_few}
 use Rattle.calls.proofs.Numbers.{numbered}
 use Rattle.calls.proofs.block.Goals.{After-errors-1}
@@ -18,17 +17,6 @@ use Rattle.calls.proofs.block.Goals as goal
 
 pub returns-in_err-check_block-clause-answers : goal.returns-in_err-check_block-clause-answers
 returns-in_err-check_block-clause-answers c = grind (arith, block_refused)
-
-pub returns-then-answer-lt4-clause-answers : goal.returns-then-answer-lt4-clause-answers
-returns-then-answer-lt4-clause-answers c = grind (arith, block_short)
-
-pub returns-in_err-check_block-clause-error : goal.returns-in_err-check_block-clause-error
-unfolding block_source
-returns-in_err-check_block-clause-error c = grind (arith, numbered, block-fault)
-
-pub returns-then-answer-lt4-clause-error : goal.returns-then-answer-lt4-clause-error
-unfolding block_source
-returns-then-answer-lt4-clause-error c = grind (arith, numbered, block-fault)
 
 pub returns-in_err-done-clause-answers : goal.returns-in_err-done-clause-answers
 returns-in_err-done-clause-answers c =
