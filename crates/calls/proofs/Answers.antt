@@ -19,12 +19,12 @@ use Rattle.design.specs.Refusal.{accepted}
 use Rattle.design.specs.Design.{sheet_of_design}
 use Rattle.state.specs.declared.Frontend.{Frontend}
 use Rattle.state.specs.declared.FrontendError.{FrontendError}
+use Rattle.state.specs.Start.{Start, start_of}
 use Rattle.state.specs.Check.{block_faults, frontend_refusal}
 use Rattle.state.proofs.Answers.{refuses, frontend-numbered}
-use Rattle.state.specs.Start.{Start, start_of}
 use Rattle.state.specs.Read.{Read, read_of}
 use Rattle.fixed.specs.Block.{Block, accepted as run, block_of}
-use Rattle.fixed.proofs.Refused.{number-first, no-faults, ran}
+use Rattle.fixed.proofs.Refused.{number-first, no-faults}
 use Rattle.places.specs.Sheet.{sheet_number, sheet_written}
 use Rattle.places.specs.Rates.{design_number, design_at, gains_at}
 use Rattle.places.specs.States.{Slices, are_long, read_state, numbers_of, has_places, state_answered, state_written}
@@ -71,9 +71,7 @@ block-fault s f values out = go (eqb (first_of (block_faults s f (length values)
   where
     go : (b : Bool) → eqb (first_of (block_faults s f (length values) (length out))).number 0 ≡ b
         → (block_of s f values out).refused ≡ first_of (block_faults s f (length values) (length out))
-    go true e =
-        let none : (block_of s f values out).refused.number ≡ 0 = number-first s f values out ∙ eqb-true _ 0 e in
-        ap (λ (b : Block). b.refused) (ran s f values out none) ∙ sym (none_first _ (no-faults s f values out none))
+    go true e = rw e (sym (none_first _ (no-faults s f values out (number-first s f values out ∙ eqb-true _ 0 e))))
     go false e = rw e refl
 
 -- what is answered of the state that is read of any slices decides: of slices that are none it is 9, as of the slices themselves
@@ -173,7 +171,7 @@ module _ (l h g k : List ℤ) (state : Slices) where
       let placed : has_places f ≡ true = ap (λ (b : Block). has_places b.state) told ∙ (left s (read_state state) values out none).placed in
       rw (long, placed) refl
 
--- what numbers are read and counted, and who refuses a block
+-- what is read and counted are signed numbers; and of a block, who refuses it, and what a short answer leaves
 pub ruleset reads = (numbered, read_small)
 
 pub ruleset blocks = (numbered, taken_small, count_few, clips_few, block-fault, block_short)
