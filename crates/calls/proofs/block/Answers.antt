@@ -1,7 +1,8 @@
 -- `block` meets its contract: what the block answers of the state that was read is answered, where there are places for it. A state that a block leaves fits
 -- the slices that it was read from, and its three counts are signed numbers.
-use Rattle.std.proofs.Common.{arith, ◌≡◌, ◌∙◌, ap, pos, w64, to_z}
+use Rattle.std.proofs.Common.{arith, ◌≡◌, ◌∙◌, ap, pos, w64, to_z, length}
 use mir.Facts.{to_z_pos}
+use borrow.Author.Tests.{le-leb}
 use Rattle.kinds.specs.Answer.{answer_number}
 use Rattle.params.specs.Refusal.{nothing}
 use Rattle.params.specs.Judge.{sheet_of}
@@ -46,6 +47,13 @@ pub returns-in_err-write_state : goal.returns-in_err-write_state
 returns-in_err-write_state c =
     let written = left (goal.at.returns-in_err-write_state c).After-errors-1 in
     absurd (grind (arith, numbered, written))
+
+-- and so is the answer, which has four places
+pub returns-in_err-put : goal.returns-in_err-put
+returns-in_err-put c =
+    let room = le-leb 3 (length c.args.answer.now) (omega arith) in
+    let put = rw room at c.put.ensures in
+    absurd (grind (arith, numbered, put))
 
 pub returns-clause-answers : goal.returns-clause-answers
 returns-clause-answers c =
