@@ -58,8 +58,8 @@ pub ruleset started = (numbered, start-written)
 
 -- ---- asking
 
--- and a ticket is a signed number
-pub ruleset asked = (numbered, ticket_small)
+-- the slices are a state where nothing refuses them, and a ticket is a signed number
+pub ruleset asked = (numbered, ticket_small, state-fits)
 
 -- ---- reading and a block
 
