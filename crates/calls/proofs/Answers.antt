@@ -14,22 +14,24 @@ use Rattle.kinds.specs.Answer.{Answer, answered, first_number}
 use Rattle.params.specs.declared.Params.{Params}
 use Rattle.params.specs.Refusal.{Refusal, nothing, first_of}
 use Rattle.params.specs.Judge.{Sheet}
+use Rattle.params.proofs.Faults.{none_first}
 use Rattle.design.specs.Refusal.{accepted}
 use Rattle.design.specs.Design.{sheet_of_design}
 use Rattle.state.specs.declared.Frontend.{Frontend}
 use Rattle.state.specs.declared.FrontendError.{FrontendError}
+use Rattle.state.specs.Start.{Start, start_of}
 use Rattle.state.specs.Check.{block_faults, frontend_refusal}
 use Rattle.state.proofs.Answers.{refuses, frontend-numbered}
 use Rattle.state.specs.Read.{Read, read_of}
-use Rattle.fixed.specs.Block.{Block, block_of}
-use Rattle.fixed.proofs.Refused.{number-first}
+use Rattle.fixed.specs.Block.{Block, accepted as run, block_of}
+use Rattle.fixed.proofs.Refused.{number-first, no-faults}
 use Rattle.places.specs.Sheet.{sheet_number, sheet_written}
 use Rattle.places.specs.Rates.{design_number, design_at, gains_at}
-use Rattle.places.specs.States.{Slices, are_long, read_state, numbers_of, has_places, state_written}
+use Rattle.places.specs.States.{Slices, are_long, read_state, numbers_of, has_places, state_answered, state_written}
 use Rattle.calls.specs.Calls.{sheet_at, state_number, BlockAnswer, block_answer, read_answer, design_answer}
 use Rattle.calls.proofs.Numbers.{numbered}
 use Rattle.calls.proofs.NoState.{reading-number, block-number, state-read, state-fits}
-use Rattle.calls.proofs.Fitting.{started-placed, left, untouched}
+use Rattle.calls.proofs.Fitting.{started-placed, ticket_small, left, untouched, read_small, taken_small, count_few, clips_few}
 use Rattle.places.proofs.Readable.{state-long}
 
 -- ---- numbers of refusals
@@ -45,9 +47,32 @@ none_of a b e = go (eqb a 0) refl
 -- ---- starting
 
 -- the fresh state has places for its counts, so it is written wherever the slices are long enough
-pub ruleset started = (numbered, started-placed, and-true)
+pub start-written : (s : Sheet) (f : Frontend) (state : Slices) → ◌≡◌ {A = Start} (record { refused = nothing; state = f }) (start_of s)
+    → state_written f state ≡ state_answered (cond (are_long state) 0 9) (numbers_of f) state
+unfolding state_written
+start-written s f state told =
+    let placed : has_places f ≡ true = ap (λ (a : Start). has_places a.state) told ∙ started-placed s in
+    rw (placed, and-true (are_long state)) refl
+
+pub ruleset started = (numbered, start-written)
+
+-- ---- asking
+
+-- the slices are a state where nothing refuses them, and a ticket is a signed number
+pub ruleset asked = (numbered, ticket_small, state-fits)
 
 -- ---- reading and a block
+
+-- a block hands on its first fault, with all that it carries
+pub block-fault : (s : Sheet) (f : Frontend) (values out : List ℤ)
+    → (block_of s f values out).refused ≡ first_of (block_faults s f (length values) (length out))
+unfolding block_of run
+block-fault s f values out = go (eqb (first_of (block_faults s f (length values) (length out))).number 0) refl
+  where
+    go : (b : Bool) → eqb (first_of (block_faults s f (length values) (length out))).number 0 ≡ b
+        → (block_of s f values out).refused ≡ first_of (block_faults s f (length values) (length out))
+    go true e = rw e (sym (none_first _ (no-faults s f values out (number-first s f values out ∙ eqb-true _ 0 e))))
+    go false e = rw e refl
 
 -- what is answered of the state that is read of any slices decides: of slices that are none it is 9, as of the slices themselves
 module _ (l h g k : List ℤ) (state : Slices) where
@@ -146,6 +171,11 @@ module _ (l h g k : List ℤ) (state : Slices) where
       let placed : has_places f ≡ true = ap (λ (b : Block). has_places b.state) told ∙ (left s (read_state state) values out none).placed in
       rw (long, placed) refl
 
+-- what is read and counted are signed numbers; and of a block, who refuses it, and what a short answer leaves
+pub ruleset reads = (numbered, read_small)
+
+pub ruleset blocks = (numbered, taken_small, count_few, clips_few, block-fault, block_short)
+
 -- ---- a design
 
 -- its sheet is written
@@ -154,3 +184,10 @@ pub design_made : (rates : List Float) (fields h g k places : List ℤ) (p : Par
     → design_answer rates fields h g k places ≡ sheet_written p places
 unfolding design_answer sheet_written
 design_made rates fields h g k places p read is = rw (← read, ← is) refl
+
+-- or there are too few places for it
+pub sheet-short : (p : Params) (places : List ℤ) → (sheet_written p places).number ≡ cond (leb 18 (length places)) 0 11
+unfolding sheet_written
+sheet-short p places = refl
+
+pub ruleset designed = (numbered, design_made, sheet-short)

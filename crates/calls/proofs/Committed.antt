@@ -10,7 +10,6 @@ use lib.Seq.{take_at, drop_at, take_all}
 use lib.IntN.{ℤ}
 use borrow.Author.Tests.{eq-eqb, le-leb}
 use borrow.Rule.Slice.PartMut.{put_mid, mid_of, post_of}
-use Rattle.kinds.specs.Answer.{Answer}
 use Rattle.params.specs.declared.Params.{Params}
 use Rattle.params.specs.Refusal.{nothing, first_of}
 use Rattle.params.specs.Judge.{Sheet}
@@ -61,15 +60,12 @@ module _ (l : Slices) (fits : state_fits l ≡ true) where
 
   -- if they are a sheet's, the places are those of the state with that sheet
   module _ (p : Params) where
-    written : (w : Answer) → w ≡ sheet_written p (mid_of 10 count l.places) → (w.number ≡ 0) × (w.places ≡ sheet_numbers p)
+    pub written : sheet_written p (mid_of 10 count l.places) ≡ record { number = 0; places = sheet_numbers p }
     unfolding sheet_written
-    written w e =
+    written =
         let mid : List ℤ = mid_of 10 count l.places in
-        let is : w ≡ record { number = 0; places = sheet_numbers p ++ drop 18 mid } = e ∙ rw (le-leb 18 (length mid) (omega (arith, sized))) refl in
-        let none : drop 18 mid ≡ [] = drop_of_length-le mid {i = 18} (omega (arith, sized)) in (
-          ap (λ (a : Answer). a.number) is,
-          ap (λ (a : Answer). a.places) is ∙ ap (λ (x : List ℤ). sheet_numbers p ++ x) none ∙ append-nil (sheet_numbers p),
-        )
+        let none : drop 18 mid ≡ [] = drop_of_length-le mid {i = 18} (omega (arith, sized)) in
+        rw (le-leb 18 (length mid) (omega (arith, sized)), none, append-nil (sheet_numbers p)) refl
 
     front : take 10 l.places ≡ first_numbers (state_of l)
     unfolding numbers_of
@@ -77,24 +73,21 @@ module _ (l : Slices) (fits : state_fits l ≡ true) where
         ap (λ (x : Slices). take 10 x.places) (sym (states_cross.again l fits))
         ∙ take_at (first_numbers (state_of l)) (sheet_numbers (state_of l).params) 10 refl
 
-    put_sheet : (ys : List ℤ) → ys ≡ sheet_numbers p → put_mid 10 count l.places ys ≡ (numbers_of (retuned p (state_of l))).places
+    put_sheet : put_mid 10 count l.places (sheet_numbers p) ≡ (numbers_of (retuned p (state_of l))).places
     unfolding numbers_of retuned
-    put_sheet ys e = put ys ∙ (λ i. front i ++ e i)
+    put_sheet = put (sheet_numbers p) ∙ (λ i. front i ++ sheet_numbers p)
 
--- so it is written, and is the answer
-pub commit_made : (ticket : ℕ) (l h g k : List ℤ) (state : Slices) (f : Frontend) (w : Answer) → 0 ≡ sheet_number l
-    → 0 ≡ state_number (sheet_at l h g k) state
+-- so the sheet written there is the answer
+pub commit_made : (ticket : ℕ) (l h g k : List ℤ) (state : Slices) (f : Frontend) → 0 ≡ sheet_number l → 0 ≡ state_number (sheet_at l h g k) state
     → ◌≡◌ {A = Commit} (record { refused = nothing; state = f }) (commit_of (sheet_at l h g k) ticket (state_of state))
-    → w ≡ sheet_written f.params (mid_of 10 (length state.places - 10) state.places)
-    → (w.number ≡ 0)
-    × (◌≡◌ {A = Answer} (record { number = 0; places = put_mid 10 (length state.places - 10) state.places w.places }) (commit_answer ticket l h g k state))
+    → commit_answer ticket l h g k state
+    ≡ record { number = 0; places = put_mid 10 (length state.places - 10) state.places (sheet_numbers f.params) }
 unfolding commit_answer retuned
-commit_made ticket l h g k state f w read passes told e =
+commit_made ticket l h g k state f read passes told =
     let s : Sheet = sheet_at l h g k in
-    let fits = state-fits s state (sym passes) in
     let is : f ≡ retuned s.params (state_of state) =
     ap (λ (a : Commit). a.state) told ∙ takes s ticket (state_of state) (ap (λ (a : Commit). a.refused.number) (sym told)) in
-    let wrote = written state fits s.params w (e ∙ ap (λ (x : Frontend). sheet_written x.params (mid_of 10 (length state.places - 10) state.places)) is) in
-    let places : put_mid 10 (length state.places - 10) state.places w.places ≡ (numbers_of f).places =
-    put_sheet state fits s.params w.places wrote.1 ∙ ap (λ (x : Frontend). (numbers_of x).places) (sym is) in
-    (wrote.0, rw (← read, ← passes, ← told) (λ i. record { number = 0; places = places i }))
+    let places : (numbers_of f).places ≡ put_mid 10 (length state.places - 10) state.places (sheet_numbers f.params) =
+    ap (λ (x : Frontend). (numbers_of x).places) is ∙ sym (put_sheet state (state-fits s state (sym passes)) s.params)
+    ∙ ap (λ (x : Frontend). put_mid 10 (length state.places - 10) state.places (sheet_numbers x.params)) (sym is) in
+    rw (← read, ← passes, ← told) (λ i. record { number = 0; places = places i })

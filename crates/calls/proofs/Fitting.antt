@@ -149,6 +149,3 @@ module _ (s : Sheet) (f : Frontend) (values out : List ℤ) where
 
   pub clips_few : (block_of s f values out).clips ≤ length out
   clips_few = small.clipped
-
--- what no count of a block is above
-pub ruleset block_counts = (taken_small, count_few, clips_few)

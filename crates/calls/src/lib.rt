@@ -15,6 +15,8 @@ ghost use Rattle.places.specs.Refusal.{places_refusal};
 ghost use Rattle.places.specs.States.{slices, state_fits, state_of};
 ghost use Rattle.calls.specs.Refusal.{call_number};
 ghost use Rattle.calls.specs.Calls.{judge_number, start_answer, state_number, block_answer, read_answer, ask_answer, commit_answer, offset_answer, design_answer};
+ghost use Rattle.calls.specs.Source.{source, nobody, state_source, judge_source, start_source, block_source, read_source};
+ghost use Rattle.calls.specs.Source.{ask_source, commit_source, offset_source, design_source};
 
 pub use claims::designs_cross;
 use params::Sheet;
@@ -35,9 +37,10 @@ fn put(numbers: &[i64], answer: &mut [i64]) -> Result<(), PlacesError>
 }
 
 // Judging (RULES 1.4).
-#[tactic(auto, using(crate::proofs::Numbers::numbered), unfolding(crate::specs::Calls::judge_number))]
+#[tactic(auto, using(crate::proofs::Numbers::numbered), unfolding(crate::specs::Calls::judge_number, crate::specs::Source::judge_source))]
 pub fn judge(sheet: &[i64], h: &[i32], g: &[i32], k: &[i32]) -> Result<(), CallError>
-    ensures { answer_number call_number result ≡ judge_number sheet.now h.now g.now k.now }
+    ensures answers { answer_number call_number result ≡ judge_number sheet.now h.now g.now k.now }
+    ensures error { source result ≡ judge_source sheet.now h.now g.now k.now }
 {
     let params = places::read_sheet(sheet)?;
     let sheet = Sheet { params, h, g, k };
@@ -46,7 +49,7 @@ pub fn judge(sheet: &[i64], h: &[i32], g: &[i32], k: &[i32]) -> Result<(), CallE
 }
 
 // Writes the fresh state of a sheet (RULES 3.1). What it leaves in the slices is a state (8.3), which the next call reads.
-#[tactic(auto, using(crate::proofs::Answers::started), unfolding(crate::specs::Calls::start_answer, places::specs::States::state_written))]
+#[tactic(auto, using(crate::proofs::Answers::started), unfolding(crate::specs::Calls::start_answer, crate::specs::Source::start_source))]
 pub fn start(
     sheet: &[i64],
     h: &[i32],
@@ -59,6 +62,7 @@ pub fn start(
     ensures answers { record { number = answer_number call_number result; state = slices state.new line.new errors.new }
         ≡ start_answer sheet.now h.now g.now k.now
         (slices state.old line.old errors.old) }
+    ensures error { source result ≡ start_source sheet.now h.now g.now k.now (slices state.old line.old errors.old) }
     ensures fits { IfOk result (λ done. state_fits (slices state.new line.new errors.new) ≡ true) }
 {
     let params = places::read_sheet(sheet)?;
@@ -70,7 +74,7 @@ pub fn start(
 // Takes a block of samples, I before Q, from the state on, as many of them as the output has places for; writes 20 places a symbol, the state after it, and
 // how many symbols it wrote, pairs it took and clips it counted to the first three of four places (RULES 4). What it leaves in the state's slices is a state
 // (8.3), which the next call reads.
-#[tactic(auto, using(crate::proofs::Numbers::numbered, crate::proofs::Fitting::block_counts), unfolding(crate::specs::Calls::block_answer))]
+#[tactic(auto, using(crate::proofs::Answers::blocks), unfolding(crate::specs::Calls::block_answer, crate::specs::Source::block_source))]
 pub fn block(
     sheet: &[i64],
     h: &[i32],
@@ -90,6 +94,8 @@ pub fn block(
       answer = answer.new;
     }
         ≡ block_answer sheet.now h.now g.now k.now
+        (slices state.old line.old errors.old) values.now out.old answer.old }
+    ensures error { source result ≡ block_source sheet.now h.now g.now k.now
         (slices state.old line.old errors.old) values.now out.old answer.old }
     ensures fits { IfOk result (λ done. state_fits (slices state.new line.new errors.new) ≡ true) }
 {
@@ -117,7 +123,7 @@ pub fn block(
 }
 
 // Writes period, gain and symbols of a state to three places (RULES 4.3).
-#[tactic(auto, using(crate::proofs::Numbers::numbered, crate::proofs::Fitting::read_small), unfolding(crate::specs::Calls::read_answer))]
+#[tactic(auto, using(crate::proofs::Answers::reads), unfolding(crate::specs::Calls::read_answer, crate::specs::Source::read_source))]
 pub fn read(
     sheet: &[i64],
     h: &[i32],
@@ -128,9 +134,10 @@ pub fn read(
     errors: &[i32],
     answer: &mut [i64],
 ) -> Result<(), CallError>
-    ensures { record { number = answer_number call_number result; places = answer.new }
+    ensures answers { record { number = answer_number call_number result; places = answer.new }
         ≡ read_answer sheet.now h.now g.now k.now
         (slices state.now line.now errors.now) answer.old }
+    ensures error { source result ≡ read_source sheet.now h.now g.now k.now (slices state.now line.now errors.now) answer.old }
 {
     let params = places::read_sheet(sheet)?;
     let lent = Slices {
@@ -154,6 +161,7 @@ pub fn read(
 #[tactic(auto, using(crate::proofs::Numbers::numbered), unfolding(crate::specs::Calls::state_number, places::specs::States::read_state))]
 fn lent_state(sheet: &Sheet<'_>, lent: &Slices<'_>) -> Result<Frontend, CallError>
     ensures refused { answer_number call_number result ≡ state_number sheet.now lent.now }
+    ensures error { source result ≡ state_source sheet.now lent.now nobody }
     ensures read { IfOk result (λ f. f ≡ state_of lent.now) }
 {
     if !lent.is_state() {
@@ -164,7 +172,7 @@ fn lent_state(sheet: &Sheet<'_>, lent: &Slices<'_>) -> Result<Frontend, CallErro
 }
 
 // Asks whether the sheet may be put into a state, and writes the ticket to one place (RULES 4.4).
-#[tactic(auto, using(crate::proofs::Numbers::numbered, crate::proofs::Fitting::ticket_small), unfolding(crate::specs::Calls::ask_answer))]
+#[tactic(auto, using(crate::proofs::Answers::asked), unfolding(crate::specs::Calls::ask_answer, crate::specs::Source::ask_source))]
 pub fn ask(
     sheet: &[i64],
     h: &[i32],
@@ -175,9 +183,10 @@ pub fn ask(
     errors: &[i32],
     answer: &mut [i64],
 ) -> Result<(), CallError>
-    ensures { record { number = answer_number call_number result; places = answer.new }
+    ensures answers { record { number = answer_number call_number result; places = answer.new }
         ≡ ask_answer sheet.now h.now g.now k.now
         (slices state.now line.now errors.now) answer.old }
+    ensures error { source result ≡ ask_source sheet.now h.now g.now k.now (slices state.now line.now errors.now) answer.old }
 {
     let params = places::read_sheet(sheet)?;
     let sheet = Sheet { params, h, g, k };
@@ -193,7 +202,7 @@ pub fn ask(
 }
 
 // Puts the sheet into a state: writes it to the held sheet's places, and leaves all others (RULES 4.5). The slices are a state (8.3) afterwards too.
-#[tactic(auto, using(crate::proofs::Numbers::numbered), unfolding(crate::specs::Calls::commit_answer))]
+#[tactic(auto, using(crate::proofs::Numbers::numbered), unfolding(crate::specs::Calls::commit_answer, crate::specs::Source::commit_source))]
 pub fn commit(
     ticket: u64,
     sheet: &[i64],
@@ -207,6 +216,7 @@ pub fn commit(
     ensures answers { record { number = answer_number call_number result; places = state.new }
         ≡ commit_answer ticket sheet.now h.now g.now k.now
         (slices state.old line.now errors.now) }
+    ensures error { source result ≡ commit_source ticket sheet.now h.now g.now k.now (slices state.old line.now errors.now) }
     ensures fits { IfOk result (λ done. state_fits (slices state.new line.now errors.now) ≡ true) }
 {
     let params = places::read_sheet(sheet)?;
@@ -224,7 +234,7 @@ pub fn commit(
 }
 
 // Writes the offset of a period to one place (RULES 6.1).
-#[tactic(auto, using(crate::proofs::Numbers::numbered), unfolding(crate::specs::Calls::offset_answer))]
+#[tactic(auto, using(crate::proofs::Numbers::numbered), unfolding(crate::specs::Calls::offset_answer, crate::specs::Source::offset_source))]
 pub fn offset(
     sheet: &[i64],
     h: &[i32],
@@ -233,8 +243,9 @@ pub fn offset(
     period: u32,
     answer: &mut [i64],
 ) -> Result<(), CallError>
-    ensures { record { number = answer_number call_number result; places = answer.new }
+    ensures answers { record { number = answer_number call_number result; places = answer.new }
         ≡ offset_answer sheet.now h.now g.now k.now period answer.old }
+    ensures error { source result ≡ offset_source sheet.now h.now g.now k.now period answer.old }
 {
     let params = places::read_sheet(sheet)?;
     let parts = offset::of_period(&Sheet { params, h, g, k }, period)?;
@@ -243,7 +254,7 @@ pub fn offset(
 }
 
 // Writes the sheet of a design to the first 18 places (RULES 6.4). The design comes as five rates and eight fields.
-#[tactic(auto, using(crate::proofs::Numbers::numbered, crate::proofs::Answers::design_made), unfolding(crate::specs::Calls::design_answer))]
+#[tactic(auto, using(crate::proofs::Answers::designed), unfolding(crate::specs::Calls::design_answer, crate::specs::Source::design_source))]
 pub fn design(
     rates: &[f64],
     fields: &[i64],
@@ -252,8 +263,9 @@ pub fn design(
     k: &[i32],
     sheet: &mut [i64],
 ) -> Result<(), CallError>
-    ensures { record { number = answer_number call_number result; places = sheet.new }
+    ensures answers { record { number = answer_number call_number result; places = sheet.new }
         ≡ design_answer rates.now fields.now h.now g.now k.now sheet.old }
+    ensures error { source result ≡ design_source rates.now fields.now h.now g.now k.now sheet.old }
 {
     let (design, gains) = places::read_design(rates, fields)?;
     let params = design.params(gains, h, g, k)?;

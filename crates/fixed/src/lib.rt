@@ -44,8 +44,8 @@ pub use claims::{one_step, two_runs};
 use params::Sheet;
 use state::{Frontend, FrontendError};
 
-// What a block answers: how many pairs it took, how many symbols it wrote, and their clips in all.
-#[derive(Clone, Copy)]
+// What a block answers: how many pairs it took, how many symbols it wrote, and their clips in all. Its zeros stand for a block that is refused.
+#[derive(Clone, Copy, Default)]
 pub struct Processed {
     pub taken: usize,
     pub count: usize,

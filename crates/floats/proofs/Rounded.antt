@@ -3,8 +3,8 @@
 use Rattle.std.proofs.Common.{◌≡◌, ℕ, zero, suc, ◌+◌, ◌*◌, ◌/◌, ◌%◌, ◌^◌, ◌<◌, Bool, true, false, ◌&&◌, cond, T, eqb, ltb, leb, ℤ, pos, negsuc, sym, refl, ap, ◌∙◌, subst, arith, ltb-true, ltb-false, ltb→lt, pow_pos}
 use native.Mathlib.Nat.{mul-one, zero-mul, mul_assoc, add_comm, mul-pos, div-add-mod, mul-add-div, mod-lt, div-eq_of_lt, div-eq_of_lt-le}
 use lib.Pow.{pow-add, shl_lt}
-use lib.Ieee.{Float, nan, inf, fin, Format, binary64, prec, emax, low, up, down, round, fits, to_signed, to_unsigned}
-use lib.Ieee.Fits.{down_pos, and_l, and_r}
+use lib.Ieee.{Float, nan, inf, fin, Format, binary64, prec, emax, low, up, down, round, fits, to_unsigned}
+use lib.Ieee.Fits.{down_pos, and_r}
 use lib.Ieee.Exact.{HasValue, round_exact}
 use lib.Ieee.Back.{round_whole}
 use lib.Ieee.Nearest.{div_same}
@@ -12,17 +12,9 @@ use Rattle.std.specs.Float.{round_with, float_round, ratio_round_half_up}
 use Rattle.arith.specs.Arith.{nearest_up}
 use Rattle.arith.proofs.Nearest.{by-rest, no-larger}
 use Rattle.floats.specs.Whole.{round_away}
+use Rattle.floats.proofs.Doubled.{few-digits}
 
--- ---- what the format says of a float m × 2^e: m has few digits
-
-few-digits : (f : Format) (s : Bool) (m : ℕ) (e : ℤ) → T (fits f (fin s m e)) → m < 2 ^ prec f
-unfolding fits
-few-digits f s zero e t = pow_pos (prec f)
-few-digits f s (suc m) e t =
-    let a = eqb (suc m % 2) 1 in
-    let b = ltb (suc m) (2 ^ prec f) in
-    let c = leb (down e) (2 ^ low f) in
-    ltb→lt (suc m) (2 ^ prec f) (and_r a b (and_l (a && b) c (and_l (a && b && c) (ltb (suc m * up e) (2 ^ suc (emax f) * down e)) t)))
+-- ---- what the format says of a float m × 2^e, beside that m has few digits: it is in the range
 
 in_range : (f : Format) (s : Bool) (m : ℕ) (e : ℤ) → T (fits f (fin s m e)) → m * up e < 2 ^ suc (emax f) * down e
 unfolding fits
@@ -49,7 +41,7 @@ same_nearest a d D =
     let parts : 2 * a + d ≡ 2 * d * (a / d) + (2 * (a % d) + d) = omega (arith, div-add-mod a d, mul_assoc 2 d (a / d)) in
     ap (λ (n : ℕ). n / (2 * d)) parts ∙ mul-add-div two (a / d) (2 * (a % d) + d) ∙ ap (λ (k : ℕ). a / d + k) (half_up (a % d) d (mod-lt a D))
 
-whole : (a : ℕ) → nearest_up a 1 ≡ a
+pub whole : (a : ℕ) → nearest_up a 1 ≡ a
 unfolding nearest_up
 whole a = grind arith
 
@@ -73,24 +65,11 @@ exact f s m (negsuc k) t =
 same_size : (m n : ℕ) (e : ℤ) → m * up e * 1 ≡ n * down e → m * up e / down e ≡ n * 1 / 1
 same_size m n e v = div_same (m * up e) (down e) (n * 1) 1 (down_pos e) (omega arith) (v ∙ ap (λ (k : ℕ). k * down e) (sym (mul-one n)))
 
-same_signed : (h : ℕ) (x : Float) (s : Bool) (n : ℕ) → HasValue x s n 1 → to_signed h x ≡ to_signed h (fin s n (pos 0))
-unfolding to_signed
-same_signed h nan s n v = absurd v
-same_signed h (inf t) s n v = absurd v
-same_signed h (fin t m e) s n v = rw (v.0, same_size m n e v.1) refl
-
 same_unsigned : (w : ℕ) (x : Float) (s : Bool) (n : ℕ) → HasValue x s n 1 → to_unsigned w x ≡ to_unsigned w (fin s n (pos 0))
 unfolding to_unsigned
 same_unsigned h nan s n v = absurd v
 same_unsigned h (inf t) s n v = absurd v
 same_unsigned h (fin t m e) s n v = rw (v.0, same_size m n e v.1) refl
-
-pub rounded_signed : (h : ℕ) (x : Float) → T (fits binary64 x) → to_signed h (float_round binary64 x) ≡ to_signed h (round_away x)
-unfolding round_with round_away
-rounded_signed h nan t = refl
-rounded_signed h (inf s) t = refl
-rounded_signed h (fin true m e) t = rw (same_nearest (m * up e) (down e) (down_pos e)) (same_signed h _ true _ (exact binary64 true m e t))
-rounded_signed h (fin false m e) t = rw (same_nearest (m * up e) (down e) (down_pos e)) (same_signed h _ false _ (exact binary64 false m e t))
 
 pub rounded_unsigned : (w : ℕ) (x : Float) → T (fits binary64 x) → to_unsigned w (float_round binary64 x) ≡ to_unsigned w (round_away x)
 unfolding round_with round_away

@@ -1,6 +1,7 @@
--- The lines that the symbol program prints, and when they are.
+-- The lines that the symbol program prints, when they are, and what a lent buffer holds afterwards.
 -- (RULES 7.2, 7.3)
-use Rattle.std.specs.Prelude.{ℕ, ◌+◌, List, [], ◌∷◌, ◌++◌, cond, leb, ℤ, pos, length}
+use Rattle.std.specs.Prelude.{ℕ, ◌+◌, ◌≡◌, List, [], ◌∷◌, ◌++◌, cond, leb, ℤ, pos, length}
+use Rattle.std.proofs.lemmas.List.Edits.{sets}
 use Rattle.print.specs.Number.{text_of}
 
 -- What follows a number: a comma, 44, or a line feed, 10, after the last.
@@ -20,6 +21,11 @@ end_of samples symbols t = 101 ∷ 110 ∷ 100 ∷ 44 ∷ line_text (pos samples
 unfoldable pub refused_of : ℕ → ℕ → List ℕ
 refused_of number line = 114 ∷ 101 ∷ 102 ∷ 117 ∷ 115 ∷ 101 ∷ 100 ∷ 44 ∷ line_text (pos number ∷ pos line ∷ [])
 
--- A text, where a page of so many bytes has `room` left behind those that it holds; else nothing.
-unfoldable pub roomed : ℕ → ℕ → List ℕ → List ℕ → List ℕ
-roomed room bytes page text = cond (leb (length page + room) bytes) text []
+-- A text, where `room` bytes from a place on are among so many; else nothing.
+unfoldable pub roomed : ℕ → ℕ → ℕ → List ℕ → List ℕ
+roomed room bytes at text = cond (leb (at + room) bytes) text []
+
+-- A text put into a buffer: its bytes are set one after the other from a place on, no other place changes, and the answer is the place behind it.
+pub record Put (text out : List ℕ) (at r : ℕ) (left : List ℕ) : Type 0 where
+  pub end : r ≡ at + length text
+  pub bytes : left ≡ sets out at text

@@ -7,7 +7,7 @@ ghost use Rattle.replay.specs.Banks.{no_banks, kept, bank_of};
 use params::{Bank, Params, Sheet};
 
 // The banks' rooms, and how many places of its room each takes.
-#[derive(Drop)]
+#[derive(Clone, Copy)]
 pub struct Banks {
     lengths: [usize; 3],
     rooms: [[i32; 8192]; 3],

@@ -68,19 +68,16 @@ fn is_kept_behind(out: &[i64], count: usize) -> bool {
 
 // Whether these are the answer of a block that was given this output. It has no symbols where it refuses, and then none of the output is written.
 fn is_block(numbers: &[i64], block: &Result<Processed, FrontendError>, out: &[i64]) -> bool {
-    let (count, taken, clips) = match block {
-        Ok(done) => (done.count, done.taken, done.clips),
-        Err(_) => (0, 0, 0),
-    };
+    let done = block.unwrap_or_default();
     let told = [
         (out.len() as u64).cast_signed(),
-        (count as u64).cast_signed(),
-        (taken as u64).cast_signed(),
-        (clips as u64).cast_signed(),
+        (done.count as u64).cast_signed(),
+        (done.taken as u64).cast_signed(),
+        (done.clips as u64).cast_signed(),
     ];
     numbers.starts_with(&told)
         && answer::is(block, rows::rest(numbers, 4))
-        && is_kept_behind(out, count)
+        && is_kept_behind(out, done.count)
 }
 
 impl Calls {
@@ -133,17 +130,18 @@ impl Calls {
     // Row 8: starting. Where that is refused, zeros are left.
     fn is_started(&mut self, numbers: &[i64]) -> bool {
         let started = Frontend::new(&self.sheet());
-        self.state = started.unwrap_or(Frontend::fresh(fields::none()));
+        self.state = started.unwrap_or_default();
         answer::is(&started, numbers)
     }
 
     // Row 10: a block.
     fn is_processed(&mut self, numbers: &[i64]) -> bool {
         let out = &mut self.out[..];
-        for (place, number) in out.iter_mut().enumerate() {
+        self.places = (rows::at(numbers, 0).cast_unsigned() as usize).min(out.len());
+        // Only the places that the row names: the room has hundreds of times as many, and nothing is read behind them.
+        for (place, number) in out[..self.places].iter_mut().enumerate() {
             *number = pattern(place);
         }
-        self.places = (rows::at(numbers, 0).cast_unsigned() as usize).min(out.len());
         let sheet = self.banks.sheet(self.params);
         let block = fixed::process(
             &mut self.state,
@@ -166,14 +164,12 @@ impl Calls {
     // Row 12.
     fn is_reading(&self, numbers: &[i64]) -> bool {
         let reading = self.state.read(&self.sheet());
-        let told = match &reading {
-            Ok(r) => [
-                i64::from(r.period),
-                i64::from(r.gain),
-                r.symbols.cast_signed(),
-            ],
-            Err(_) => [0; 3],
-        };
+        let read = reading.unwrap_or_default();
+        let told = [
+            i64::from(read.period),
+            i64::from(read.gain),
+            read.symbols.cast_signed(),
+        ];
         numbers.starts_with(&told) && answer::is(&reading, rows::rest(numbers, 3))
     }
 

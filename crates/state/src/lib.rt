@@ -76,8 +76,8 @@ impl FrontendError {
     }
 }
 
-// What is read of a state.
-#[derive(Clone, Copy)]
+// What is read of a state. Its zeros stand for a reading that is refused.
+#[derive(Clone, Copy, Default)]
 pub struct Reading {
     pub period: u32,
     pub gain: u16,

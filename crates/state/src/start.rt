@@ -1,4 +1,4 @@
-// Starting: the state before the first sample.
+// Starting: the state before the first sample, and the zeros of a start that is refused.
 ghost use Rattle.std.specs.Prelude.{◌≡◌};
 ghost use Rattle.state.specs.Start.{fresh, start_of, started};
 
@@ -36,5 +36,16 @@ impl Frontend {
     {
         sheet.validate()?;
         Ok(Frontend::fresh(sheet.params))
+    }
+}
+
+// Zeros throughout, the held sheet's fields among them: what a refused start stands for, as `Frontend::new(&sheet).unwrap_or_default()` gives it.
+impl Default for Frontend {
+    ghost use Rattle.fields.specs.Fields.{no_fields};
+
+    ghost is_default = { λ f. f ≡ fresh no_fields };
+
+    fn default() -> Frontend {
+        Frontend::fresh(fields::none())
     }
 }

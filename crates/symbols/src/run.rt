@@ -3,7 +3,7 @@ ghost use Rattle.std.specs.Prelude.{◌≤◌, ◌<◌, ◌*◌, length, IfOk};
 
 use crate::input::Input;
 use crate::output::Output;
-use crate::sheet::Head;
+use crate::sheet::{self, Head};
 use crate::stop::Stop;
 use kinds::Kind;
 use params::Sheet;
@@ -73,7 +73,8 @@ fn put_block(
 
 // Prints the symbols of the whole input and the end line, or stops before.
 pub(crate) fn run(input: &mut Input, output: &mut Output) -> Result<(), Stop> {
-    let head = Head::read(input)?;
+    let mut head = Head::new(sheet::read_params(input)?);
+    head.read_banks(input)?;
     let sheet = head.sheet();
     let mut state = Frontend::new(&sheet).map_err(FrontendError::from)?;
     // Places for half of the pairs, so that no long input is printed right unless each call goes on from what the one before it took.

@@ -17,7 +17,7 @@ pub(crate) struct Head {
 }
 
 // Line 1. A row's length rests on the taps, so these are judged at once.
-fn read_params(input: &mut Input) -> Result<Params, Stop> {
+pub(crate) fn read_params(input: &mut Input) -> Result<Params, Stop> {
     let mut values = [0i64; 18];
     input.take(&places::sheet_kinds(), &mut values)?;
     match places::read_sheet(&values).map_err(|e| e.number()) {
@@ -44,15 +44,22 @@ fn read_bank(input: &mut Input, taps: u32, bank: &mut [i32]) -> Result<(), Stop>
 }
 
 impl Head {
-    pub(crate) fn read(input: &mut Input) -> Result<Head, Stop> {
-        let params = read_params(input)?;
-        let mut h = [0i32; 4096];
-        let mut g = [0i32; 4096];
-        let mut k = [0i32; 4096];
-        read_bank(input, params.taps, &mut h)?;
-        read_bank(input, params.taps, &mut g)?;
-        read_bank(input, params.taps, &mut k)?;
-        Ok(Head { params, h, g, k })
+    // Room for the banks.
+    pub(crate) fn new(params: Params) -> Head {
+        Head {
+            params,
+            h: [0; 4096],
+            g: [0; 4096],
+            k: [0; 4096],
+        }
+    }
+
+    // Reads the banks where they stay: a Head that is handed on is copied with all three.
+    pub(crate) fn read_banks(&mut self, input: &mut Input) -> Result<(), Stop> {
+        let taps = self.params.taps;
+        read_bank(input, taps, &mut self.h)?;
+        read_bank(input, taps, &mut self.g)?;
+        read_bank(input, taps, &mut self.k)
     }
 
     pub(crate) fn sheet(&self) -> Sheet<'_> {

@@ -70,7 +70,7 @@ number_is (Ok v) = refl
 number_is (Err Malformed) = refl
 number_is (Err OutOfRange) = refl
 
-worst-le : (ks : List Kind) (fs : List (List ℕ)) → worst ks fs ≤ 2
+pub worst-le : (ks : List Kind) (fs : List (List ℕ)) → worst ks fs ≤ 2
 unfolding worst
 worst-le [] [] = omega arith
 worst-le [] (f ∷ fs) = omega arith

@@ -9,7 +9,7 @@ pub use claims::{inverse_holds, settled};
 pub use lines::{line_end, read_line};
 
 // The most bytes that a line may have before its line feed.
-const LONGEST: usize = 1024;
+pub const LONGEST: usize = 1024;
 
 // Where the first line of some bytes ends.
 #[derive(Clone, Copy, PartialEq, Eq, Debug)]

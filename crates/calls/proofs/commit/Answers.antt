@@ -1,18 +1,16 @@
 -- `commit` meets its contract: slices that are a state have 18 places behind the first ten, so the sheet is written, and what is left are the places of the
 -- state with that sheet. The sheet can be read, so the slices are a state again.
-use Rattle.std.proofs.Common.{rules, arith, ◌≡◌, true, ◌∙◌, sym, ap, ◌-◌, length}
-use borrow.Rule.Slice.PartMut.{put_mid}
-use Rattle.kinds.specs.Answer.{Answer, answer_number}
+use Rattle.std.proofs.Common.{rules, arith, ◌≡◌, true, ◌∙◌, sym, ap, length, length-take, length-drop}
 use Rattle.params.specs.Judge.{sheet_of}
 use Rattle.retune.specs.Retune.{commit_of}
-use Rattle.places.specs.Refusal.{places_refusal}
 use Rattle.places.specs.States.{slices, state_fits}
 use Rattle.places.proofs.Readable.{are_state}
-use Rattle.calls.specs.Calls.{state_number, commit_answer}
+use Rattle.calls.specs.Calls.{state_number}
 use Rattle.calls.proofs.Numbers.{numbered}
+use Rattle.calls.proofs.Answers.{sheet-short}
 use Rattle.calls.proofs.NoState.{state-fits}
-use Rattle.calls.proofs.Committed.{put_fits, commit_made}
-use Rattle.calls.proofs.commit.Goals.{After-commit, After-state-1}
+use Rattle.calls.proofs.Committed.{put_fits, written, commit_made}
+use Rattle.calls.proofs.commit.Goals.{After-commit}
 use Rattle.calls.proofs.commit.Goals as goal
 
 -- the slices are a state
@@ -28,25 +26,20 @@ slice_bounds-write_sheet-count c = omega (arith, long (goal.at.slice_bounds-writ
 pub slice_bounds-write_sheet-start : goal.slice_bounds-write_sheet-start
 slice_bounds-write_sheet-start c = let places = long (goal.at.slice_bounds-write_sheet-start c).After-commit in search rules
 
--- the sheet is written, and with it the state
-made : (c : After-state-1) → let a = c.args in let w = c.write_sheet in
-    (answer_number places_refusal w.result ≡ 0)
-    × (◌≡◌ {A = Answer} (record { number = 0; places = put_mid 10 (length a.state.now - 10) a.state.now w.new.sheet })
-    (commit_answer a.ticket a.sheet.now a.h.now a.g.now a.k.now (slices a.state.now a.line.now a.errors.now)))
-made c =
+pub returns-in_err-write_sheet : goal.returns-in_err-write_sheet
+returns-in_err-write_sheet c =
+    let places = long (goal.at.returns-in_err-write_sheet c).After-commit in
+    absurd (grind (arith, numbered, sheet-short, length-take, length-drop, places))
+
+pub returns-clause-answers : goal.returns-clause-answers
+returns-clause-answers c =
     let a = c.args in
     let lent = slices a.state.now a.line.now a.errors.now in
     let passes = c.in_ok-f.ensures.refused ∙ ap (λ p. state_number (sheet_of p a.h.now a.g.now a.k.now) lent) c.in_ok-params.ensures.read in
     let told = c.in_ok-commit.ensures ∙ (λ i. commit_of (sheet_of (c.in_ok-params.ensures.read i) a.h.now a.g.now a.k.now) a.ticket (c.in_ok-f.ensures.read i)) in
-    commit_made a.ticket _ _ _ _ lent _ _ c.in_ok-params.ensures.refused passes told c.write_sheet.ensures.written
-
-pub returns-in_err-write_sheet : goal.returns-in_err-write_sheet
-returns-in_err-write_sheet c =
-    let none = (made (goal.at.returns-in_err-write_sheet c).After-state-1).0 in
-    grind (arith, numbered, none)
-
-pub returns-clause-answers : goal.returns-clause-answers
-returns-clause-answers c = (made (goal.at.returns-clause-answers c).After-state-1).1
+    let made = commit_made a.ticket _ _ _ _ lent _ c.in_ok-params.ensures.refused passes told in
+    let wrote = written lent (state (goal.at.returns-clause-answers c).After-commit) c.commit.new.f.params in
+    grind (arith, made, wrote)
 
 pub returns-clause-fits : goal.returns-clause-fits
 returns-clause-fits c =

@@ -12,8 +12,8 @@ use Rattle.calls.proofs.Fitting.{read_small}
 use Rattle.calls.proofs.read.Goals.{After-answer-1}
 use Rattle.calls.proofs.read.Goals as goal
 
-pub returns-in_err-reading : goal.returns-in_err-reading
-returns-in_err-reading c = grind (arith, read_refused)
+pub returns-in_err-reading-clause-answers : goal.returns-in_err-reading-clause-answers
+returns-in_err-reading-clause-answers c = grind (arith, read_refused)
 
 -- what is written to the answer, or refused for want of places, is what reading answers
 wrote : (c : After-answer-1) → let a = c.args in
@@ -29,8 +29,8 @@ wrote c =
     let put = rw (period, gain, symbols) at c.put.ensures in
     read_done _ _ _ _ (slices a.state.now a.line.now a.errors.now) a.answer.now _ _ _ c.in_ok-params.ensures.refused told put
 
-pub returns-in_err-put : goal.returns-in_err-put
-returns-in_err-put c = let told = wrote (goal.at.returns-in_err-put c).After-answer-1 in grind (arith, told)
+pub returns-in_err-put-clause-answers : goal.returns-in_err-put-clause-answers
+returns-in_err-put-clause-answers c = let told = wrote (goal.at.returns-in_err-put-clause-answers c).After-answer-1 in grind (arith, told)
 
-pub returns : goal.returns
-returns c = let told = wrote (goal.at.returns c).After-answer-1 in grind (arith, told)
+pub returns-clause-answers : goal.returns-clause-answers
+returns-clause-answers c = let told = wrote (goal.at.returns-clause-answers c).After-answer-1 in grind (arith, told)
